@@ -1,0 +1,3 @@
+pub mod Process
+pub mod Queries
+pub mod Parts
