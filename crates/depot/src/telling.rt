@@ -7,7 +7,7 @@ use process::size_of;
 use refusal::Refusal;
 use std::io;
 
-pub fn print_refusal(rt: &LibcRuntime, refusal: Refusal) -> io::Result<()> {
+pub(crate) fn print_refusal(rt: &LibcRuntime, refusal: Refusal) -> io::Result<()> {
     let number = refusal.number();
     let place = refusal.place();
     println!(rt, "refused={number}")?;
@@ -15,7 +15,7 @@ pub fn print_refusal(rt: &LibcRuntime, refusal: Refusal) -> io::Result<()> {
 }
 
 // The size of a model, and then each of its moves on a line.
-pub fn print_model<M: Model>(rt: &LibcRuntime, model: &M) -> io::Result<()>
+pub(crate) fn print_model<M: Model>(rt: &LibcRuntime, model: &M) -> io::Result<()>
     requires { ⌜ M·Model .valid (now model) ⌝ }
 {
     let size = size_of(model);

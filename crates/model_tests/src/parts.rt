@@ -53,6 +53,17 @@ fn filled(part: &mut Part<Ladder>, marks: &[u8]) -> (u8, usize) {
     }
 }
 
+// the constant, as code for every model reads it
+fn scale_of<M: Model>(_model: &M) -> u32 {
+    M::SCALE
+}
+
+#[test]
+fn a_part_has_the_scale_below() -> Result<(), Fail> {
+    let part = Part::new(Part::new(ladder()?));
+    check_eq(scale_of(&part), 4096)
+}
+
 #[test]
 fn a_new_part_keeps_nothing() -> Result<(), Fail> {
     let part = Part::new(ladder()?);

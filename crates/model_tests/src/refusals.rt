@@ -2,6 +2,7 @@ use refusal::Layer;
 use refusal::LayerDebug;
 use refusal::LayerPartialEq;
 use refusal::Refusal;
+use refusal::RefusalPartialEq;
 use std::test::*;
 
 const CASES: [(Refusal, u8, Layer, usize); 18] = [
@@ -33,4 +34,12 @@ fn numbers_layers_and_places() -> Result<(), Fail> {
         check_eq(refusal.place(), place)?;
     }
     Ok(())
+}
+
+#[test]
+fn equal_if_told_alike() -> Result<(), Fail> {
+    check(Refusal::TableSum(3) == Refusal::TableSum(3))?;
+    check(Refusal::TableSum(3) != Refusal::TableSum(4))?;
+    check(Refusal::TableSum(3) != Refusal::TableMove(3))?;
+    check(Refusal::LadderTries != Refusal::RegisterFull)
 }

@@ -3,7 +3,7 @@ use std::alloc::AllocError;
 use std::alloc::Global;
 
 #[derive(Drop)]
-pub struct Lists {
+pub(crate) struct Lists {
     pub options: Vec<u32>,
     pub starts: Vec<u32>,
     pub moves: Vec<u32>,
@@ -11,7 +11,7 @@ pub struct Lists {
 
 // Each of so many states has so many options, each of which has so many moves; of those the first leads to the given
 // place with all the weight, and the others to the exit with none.
-pub fn equal(
+pub(crate) fn equal(
     heap: Global,
     states: u32,
     options: u32,

@@ -24,8 +24,9 @@ fn told(answer: Result<(), Refusal>) -> (u8, usize) {
 }
 
 // states, options of each, moves of each, where the first move leads; number and place
-const SIZES: [(u32, u32, u32, u32, u8, usize); 12] = [
+const SIZES: [(u32, u32, u32, u32, u8, usize); 13] = [
     (0, 1, 1, 4096, 21, 0),
+    (1, 0, 1, 4096, 21, 1),
     (1, 1, 1, 4096, 0, 0),
     (4096, 1, 1, 4095, 0, 0),
     (4095, 1, 1, 4095, 23, 0),

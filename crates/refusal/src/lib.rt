@@ -1,4 +1,5 @@
 ghost use mathlib.Core.Path.{_≡_};
+ghost use Rattle.std.specs.Orderings.{Decides};
 ghost use Rattle.refusal.specs.Tellings.{number-of, layer-of, place-of, tell};
 ghost use Rattle.refusal.specs.declared.reason.Refusal.{Refusal as Any};
 
@@ -10,7 +11,6 @@ pub use layer::LayerDebug;
 pub use layer::LayerPartialEq;
 pub use reason::Refusal;
 pub use reason::RefusalDebug;
-pub use reason::RefusalPartialEq;
 
 impl Refusal {
     // The number; with the layer and the place it tells a refusal from every other.
@@ -92,3 +92,17 @@ impl Refusal {
         }
     }
 }
+
+// Two refusals are the same exactly when they are told alike.
+pub impl PartialEq<Refusal> for Refusal as RefusalPartialEq {
+    ghost equals = { λ x y r. Decides r (x ≡ y) };
+
+    fn eq(&self, other: &Refusal) -> bool {
+        if self.number() != other.number() || self.place() != other.place() {
+            return false;
+        }
+        self.layer() == other.layer()
+    }
+}
+
+pub impl Eq for Refusal as RefusalEq {}

@@ -1,5 +1,5 @@
 // Why something was refused: one case for each number, named by its layer, with the place where it names one.
-#[derive(Clone, Copy, PartialEq, Eq, Debug)]
+#[derive(Clone, Copy, Debug)]
 pub enum Refusal {
     // 11: a line is not key, `=`, value and newline (the line, from 1)
     TextLine(usize),

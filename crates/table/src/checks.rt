@@ -14,7 +14,7 @@ use process::Move;
 use process::Place;
 use refusal::Refusal;
 
-pub fn check_lists(
+pub(crate) fn check_lists(
     scale: u32,
     options: &[u32],
     starts: &[u32],

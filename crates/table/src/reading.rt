@@ -8,7 +8,7 @@ use process::End;
 use process::Move;
 use process::Place;
 
-pub fn read_move(moves: &[u32], index: usize) -> Move
+pub(crate) fn read_move(moves: &[u32], index: usize) -> Move
     requires { ⌜ index < length (now moves) / 2 ⌝ }
     ensures { λ r. ⌜ r ≡ move-read (now (moves .entry)) index ⌝ }
 {
