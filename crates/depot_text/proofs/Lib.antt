@@ -1,0 +1,11 @@
+pub mod Runs
+pub mod Texts
+pub mod Undone
+pub mod Proper
+pub mod Filling
+pub mod Complete
+pub mod Taken
+pub mod Shapes
+pub mod Law
+pub mod Ends
+pub mod Parting

@@ -1,0 +1,5 @@
+pub mod Items
+pub mod Machine
+pub mod Loading
+pub mod Spelling
+pub mod Splitting

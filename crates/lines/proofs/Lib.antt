@@ -1,0 +1,5 @@
+pub mod DigitTurns
+pub mod Leading
+pub mod Numerals
+pub mod Written
+pub mod Retold

@@ -1,0 +1,3 @@
+pub mod Texts
+pub mod Passes
+pub mod View

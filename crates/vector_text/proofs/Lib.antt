@@ -1,0 +1,4 @@
+pub mod Spelled
+pub mod Complete
+pub mod Taken
+pub mod Law
