@@ -5,6 +5,7 @@ use depot_text::split_input;
 use opened::open_text;
 use process::size_of;
 use std::env;
+use std::error::AnyError;
 use std::fs;
 use std::io;
 use std::io::Read;
@@ -17,10 +18,15 @@ mod telling;
 // what is read of an input; what lies past it is not
 const MOST: usize = 65536;
 
-fn main(rt: LibcRuntime) -> io::Result<()> {
-    let bytes = read_input(&rt)?;
+fn main(rt: LibcRuntime) -> Result<(), AnyError> {
+    rt.report(run(&rt))
+}
+
+fn run(rt: &LibcRuntime) -> Result<(), AnyError> {
+    let bytes = read_input(rt)?;
     let most = bytes.len().min(MOST);
-    tell_input(&rt, &bytes.as_slice()[0..most])
+    tell_input(rt, &bytes.as_slice()[0..most])?;
+    Ok(())
 }
 
 // From the file that the one argument names, or from standard input.

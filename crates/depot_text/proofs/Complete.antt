@@ -33,10 +33,12 @@ use Rattle.depot_text.specs.Machine.{may-state, may-choice, may-to, may-end}
 use Rattle.depot_text.specs.Machine.{after-kind, after-states, after-state, after-choice}
 use Rattle.depot_text.specs.Machine.{after-to, after-weight, after-end}
 use Rattle.depot_text.specs.Loading.{place-of, depot, puts}
-use Rattle.depot_text.specs.Spelling.{Spelled-move, Tree, Fits, move-of, process-of, over, spread}
+use Rattle.passes.specs.Over.{over}
+use Rattle.passes.proofs.Over.{set-over}
+use Rattle.depot_text.specs.Spelling.{Spelled-move, Tree, Fits, move-of, process-of, spread}
 use Rattle.depot_text.specs.Spelling.{move-items, option-items, state-items, depot-items}
 use Rattle.depot_text.proofs.Runs.{run, wrote, onward, rules-of}
-use Rattle.depot_text.proofs.Filling.{set-over, heads, length-heads, starts-append, starts-map}
+use Rattle.depot_text.proofs.Filling.{heads, length-heads, starts-append, starts-map}
 use Rattle.depot_text.proofs.Filling.{joined-map, moves-written-append}
 
 -- demands that are met

@@ -8,18 +8,6 @@ use Rattle.std.proofs.shelf.Lists.{drop-more, set-at, length-push, map-append}
 use Rattle.process.specs.declared.place.Move.{Move}
 use Rattle.process.specs.Process.{joined}
 use Rattle.encoding.specs.Writing.{starts-from, moves-written}
-use Rattle.depot_text.specs.Spelling.{over}
-
--- one number more
-pub set-over : (xs old : List ℕ) (n v : ℕ) → n ≡ length xs → n < length old
-    → set (over xs old) n v ≡ over (xs ++ (v ∷ [])) old
-set-over xs old n v e h =
-    let more : drop (length xs) old ≡ _ = drop-more old (length xs) 0 (omega arith) in
-    let long = length-push xs v in
-    ap (λ z. set (xs ++ z) n v) more
-    ∙ set-at xs _ (drop (length xs + 1) old) v n (sym e)
-    ∙ sym (append-assoc xs (v ∷ []) (drop (length xs + 1) old))
-    ∙ ap (λ k. (xs ++ (v ∷ [])) ++ drop k old) (sym long)
 
 -- where each of several lists starts, without where the last one ends
 abbrev pub heads : {A : Type 0} → ℕ → List (List A) → List ℕ

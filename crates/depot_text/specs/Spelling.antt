@@ -4,7 +4,7 @@ use mathlib.Core.Bool.{false}
 use mathlib.Core.List.{List, [], _∷_, _++_, map}
 use Prim.Native.Nat.{ℕ, _+_, _*_, _≤_}
 use lib.Chars.{codes}
-use lib.ListN.{length, drop}
+use lib.ListN.{length}
 use Rattle.std.specs.declared.result.Result.{Result}
 use Rattle.std.specs.declared.result.Result.the-variants.{Ok}
 use Rattle.std.specs.Results.{isOk}
@@ -18,6 +18,7 @@ use Rattle.encoding.specs.Lists.{Lists, lists}
 use Rattle.encoding.specs.Writing.{encoding}
 use Rattle.lines.specs.Lines.{Said, says-word, says-number}
 use Rattle.lines.specs.Writing.{written}
+use Rattle.passes.specs.Over.{over}
 use Rattle.depot_text.specs.declared.item.Spelled.{Spelled}
 use Rattle.depot_text.specs.declared.item.Spelled.the-variants as spelled
 use Rattle.depot_text.specs.declared.item.Item.{Item}
@@ -81,10 +82,7 @@ pub record Fits (d : ℕ) (l : Lists) (t : Tree) : Type 0 where
   pub option-room : length (joined t) + 1 ≤ length (l .move-starts)
   pub move-room : 2 * length (joined (joined t)) ≤ length (l .moves)
 
--- numbers past those that are needed stay
-abbrev pub over : List ℕ → List ℕ → List ℕ
-over xs old = xs ++ drop (length xs) old
-
+-- written over the front of the lent lists; numbers past those that are needed stay
 abbrev pub spread : Lists → Lists → Lists
 spread l old =
     lists (over (l .option-starts) (old .option-starts)) (over (l .move-starts) (old .move-starts))

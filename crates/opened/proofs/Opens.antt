@@ -18,7 +18,8 @@ use Rattle.encoding.specs.Lists.{Lists, lists}
 use Rattle.encoding.specs.Writing.{starts-from, moves-written, encoding, Spells, Taken-as-spelled}
 use Rattle.encoding.proofs.Pieces.{length-starts}
 use Rattle.encoding.proofs.Moves.{length-moves-written}
-use Rattle.depot_text.specs.Spelling.{Tree, move-of, process-of, render, size-of, Fits, over, spread, Loaded-as-spelled}
+use Rattle.passes.specs.Over.{over}
+use Rattle.depot_text.specs.Spelling.{Tree, move-of, process-of, render, size-of, Fits, spread, Loaded-as-spelled}
 use Rattle.depot_text.proofs.Complete.{length-options, length-moves}
 use Rattle.opened.specs.Opening.{Opened-as-spelled}
 

@@ -1,3 +1,4 @@
 pub mod Texts
 pub mod Passes
 pub mod View
+pub mod Over

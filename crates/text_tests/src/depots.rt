@@ -54,12 +54,13 @@ fn line_of(case: usize) -> &'static [u8] {
         28 => b"end=depots\n",
         29 => b"end=depot",
         30 => b"x\n",
+        32 => b"states=4096\n",
         _ => b"end=depot\n",
     }
 }
 
 // the line changed, which line_of it becomes, and what is told
-const CASES: [(usize, usize, u8, usize); 36] = [
+const CASES: [(usize, usize, u8, usize); 37] = [
     (1, 0, 11, 1),
     (1, 1, 12, 1),
     (1, 2, 12, 1),
@@ -68,6 +69,7 @@ const CASES: [(usize, usize, u8, usize); 36] = [
     (2, 5, 13, 2),
     (2, 6, 13, 2),
     (2, 7, 13, 2),
+    (2, 32, 14, 2),
     (2, 8, 11, 2),
     (2, 9, 11, 2),
     (2, 10, 12, 2),

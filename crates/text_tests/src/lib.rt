@@ -4,5 +4,7 @@ mod depots;
 #[cfg(test)]
 mod inputs;
 #[cfg(test)]
+mod limits;
+#[cfg(test)]
 mod vectors;
 mod worked;

@@ -12,6 +12,8 @@ use Rattle.std.proofs.shelf.Lists.{drop-more, set-at, length-push}
 use Rattle.std.proofs.shelf.Tests.{cond-true, false≢true, lt-ltb}
 use Rattle.encoding.specs.Lists.{Lists, lists}
 use Rattle.passes.specs.Passes.{halt, then, pass, filled}
+use Rattle.passes.specs.Over.{over}
+use Rattle.passes.proofs.Over.{set-over}
 use Rattle.passes.proofs.Turns.{pass-on, fill-on, pass-over, fill-over}
 use Rattle.vector_text.specs.declared.format.Kind.{Kind}
 use Rattle.vector_text.specs.declared.format.Item.{Item}
@@ -32,20 +34,6 @@ inside-phase phase.End e = absurd (false≢true e)
 
 pub goes-on : (v : Vector) → inside v ≡ true → ended v ≡ false
 goes-on v e = inside-phase (v .phase) e
-
--- numbers put over the front of a list
-abbrev over : List ℕ → List ℕ → List ℕ
-over xs old = xs ++ drop (length xs) old
-
-set-over : (xs old : List ℕ) (n e : ℕ) → n ≡ length xs → n < length old
-    → set (over xs old) n e ≡ over (xs ++ (e ∷ [])) old
-set-over xs old n e same h =
-    let more : drop (length xs) old ≡ _ = drop-more old (length xs) 0 (omega arith) in
-    let long = length-push xs e in
-    ap (λ z. set (xs ++ z) n e) more
-    ∙ set-at xs _ (drop (length xs + 1) old) e n (sym same)
-    ∙ sym (append-assoc xs (e ∷ []) (drop (length xs + 1) old))
-    ∙ ap (λ k. (xs ++ (e ∷ [])) ++ drop k old) (sym long)
 
 -- the state after an entry, and after the end
 abbrev pub with-entry : Vector → ℕ → Vector

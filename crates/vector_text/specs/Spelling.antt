@@ -4,7 +4,7 @@ use mathlib.Core.Bool.{false}
 use mathlib.Core.List.{List, [], _∷_, _++_, map}
 use Prim.Native.Nat.{ℕ, _+_, _^_, _≤_, _<_}
 use lib.Chars.{codes}
-use lib.ListN.{length, drop}
+use lib.ListN.{length}
 use Rattle.std.specs.declared.result.Result.{Result}
 use Rattle.std.specs.declared.result.Result.the-variants.{Ok}
 use Rattle.std.specs.Results.{isOk}
@@ -15,6 +15,7 @@ use Rattle.refusal.specs.Tellings.{Telling}
 use Rattle.lines.specs.Lines.{Said, says-word, says-number}
 use Rattle.lines.specs.Writing.{written}
 use Rattle.passes.specs.Texts.{lines}
+use Rattle.passes.specs.Over.{over}
 use Rattle.vector_text.specs.declared.format.Kind.{Kind}
 use Rattle.vector_text.specs.declared.format.Kind.the-variants.{Cap, Floor, Delay, Hope, Risk}
 use Rattle.vector_text.specs.Reading.{Header}
@@ -46,5 +47,5 @@ pub record Read-as-spelled (first : ℕ) (text old : List ℕ) (r : Result Heade
       → (k : Kind) × (es : List ℕ) × (rest : List ℕ) × All (λ n. n < 2 ^ 32) es × (length es ≤ length old)
       × (text ≡ render k es ++ rest)
   pub spelled : (k : Kind) (es rest : List ℕ) → All (λ n. n < 2 ^ 32) es → length es ≤ length old
-      → text ≡ render k es ++ rest → (r ≡ Ok (header-of first k es rest)) × (new ≡ es ++ drop (length es) old)
+      → text ≡ render k es ++ rest → (r ≡ Ok (header-of first k es rest)) × (new ≡ over es old)
   pub refused : isOk r ≡ false → new ≡ old
