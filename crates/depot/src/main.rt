@@ -1,3 +1,5 @@
+#![tactic(auto)]
+
 // Reads a depot and the vectors that follow it, and tells what it found.
 ghost use Rattle.std.specs.Prelude.{◌+◌, ◌≤◌, length};
 

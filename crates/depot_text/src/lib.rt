@@ -1,3 +1,5 @@
+#![tactic(auto)]
+
 // Depot text: read whole, or refused at its first bad line.
 mod automaton;
 mod item;

@@ -1,3 +1,5 @@
+#![tactic(auto)]
+
 ghost use Rattle.std.specs.Prelude.{◌≡◌, length, is_ok, Decides};
 ghost use Rattle.refusal.specs.Tellings.{told};
 ghost use Rattle.process.specs.Process.{joined};

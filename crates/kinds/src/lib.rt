@@ -1,3 +1,5 @@
+#![tactic(auto)]
+
 // What differs between the kinds of vector: their limits, their sides and how these compare.
 mod flow_kind;
 mod state_kind;

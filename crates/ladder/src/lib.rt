@@ -1,3 +1,5 @@
+#![tactic(auto)]
+
 ghost use Rattle.std.specs.Prelude.{◌≡◌, ◌<◌, true, is_ok};
 ghost use Rattle.std.specs.List.{slice_get};
 ghost use Rattle.refusal.specs.Tellings.{told_as};

@@ -1,3 +1,5 @@
+#![tactic(auto)]
+
 // One line of text: key, `=`, value, newline.
 mod bytes;
 mod reader;

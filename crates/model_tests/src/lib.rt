@@ -1,3 +1,5 @@
+#![tactic(auto)]
+
 // Tests of the three models at the edges of their rules.
 #[cfg(test)]
 mod ladders;

@@ -1,3 +1,5 @@
+#![tactic(auto)]
+
 // A depot table opened from its text.
 ghost use Rattle.std.specs.Prelude.{◌≡◌};
 ghost use Rattle.refusal.specs.Tellings.{told};

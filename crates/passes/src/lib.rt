@@ -1,3 +1,5 @@
+#![tactic(auto)]
+
 ghost use Rattle.std.specs.Prelude.{◌≡◌, ℕ, Bool, Result as Answer};
 ghost use Rattle.refusal.specs.Tellings.{Telling, told};
 ghost use Rattle.encoding.specs.Lists.{Lists};

@@ -1,3 +1,5 @@
+#![tactic(auto)]
+
 ghost use Rattle.std.specs.Prelude.{◌≡◌, ℕ, length};
 ghost use Rattle.process.specs.Process.{Process, Formed};
 ghost use Rattle.process.specs.Queries.{options_at, moves_at, move_at};

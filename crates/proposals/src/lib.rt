@@ -1,3 +1,5 @@
+#![tactic(auto)]
+
 // The vectors of a text as calls on a register.
 ghost use Rattle.std.specs.Prelude.{◌≡◌, ◌+◌, ◌≤◌, min, map, length, take, IfOk};
 ghost use Rattle.replay.specs.Views.{act_of};

@@ -1,5 +1,6 @@
 -- A refusal as it is told: its number, its layer and one place. Every promise about a refusal goes through these.
-use Rattle.std.specs.Prelude.{ℕ, Ok, Err, Result}
+use Rattle.std.specs.Prelude.{ℕ, Bool, ◌==◌, Ok, Err, Result}
+use Rattle.std.specs.Ordering.{eq_of_both, on}
 use Rattle.refusal.specs.declared.reason.Refusal.{Refusal}
 use Rattle.refusal.specs.declared.reason.Refusal.TheVariants.{TextLine, TextOrder, TextValue, TextRoom, TextSum, TableLength, TableStarts, TableMove, TableSum, LadderTries, LadderChances, VectorLength, VectorEntry, VectorInequality, LookAheadReach, RegisterChance, PartMarks, RegisterFull}
 use Rattle.refusal.specs.declared.layer.Layer.{Layer}
@@ -60,6 +61,21 @@ layer_of r = (tell r).layer
 
 abbrev pub place_of : Refusal → ℕ
 place_of r = (tell r).place
+
+-- the place of a layer among the layers
+abbrev pub layer_index : Layer → ℕ
+layer_index Text = 0
+layer_index Table = 1
+layer_index Ladder = 2
+layer_index Vector = 3
+layer_index LookAhead = 4
+layer_index Register = 5
+layer_index Part = 6
+
+-- whether two refusals are told alike: the same number, place and layer
+abbrev pub same_telling : Refusal → Refusal → Bool
+same_telling =
+    eq_of_both (on number_of ◌==◌) (eq_of_both (on place_of ◌==◌) (on (λ r. layer_index (layer_of r)) ◌==◌))
 
 -- an answer, its value seen through a function and its refusal as it is told
 abbrev pub told_as : {X Y : Type 0} → (X → Y) → Result X Refusal → Result Y Telling

@@ -1,5 +1,5 @@
 -- Tests in their order: the first place that fails, and the refusal that names it.
-use Rattle.std.specs.Prelude.{ℕ, ◌+◌, ◌<◌, Bool, cond, ◌&&◌, List, [], ◌∷◌, Some, None, Ok, Err, Option, Result, nat_le}
+use Rattle.std.specs.Prelude.{ℕ, ◌+◌, ◌<◌, Bool, cond, ◌&&◌, List, [], ◌∷◌, Some, None, Err, Option, Result, nat_le}
 use Rattle.refusal.specs.Tellings.{Telling}
 
 abbrev pub between : ℕ → ℕ → ℕ → Bool

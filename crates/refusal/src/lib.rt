@@ -1,5 +1,7 @@
+#![tactic(auto)]
+
 ghost use Rattle.std.specs.Prelude.{◌≡◌, Decides};
-ghost use Rattle.refusal.specs.Tellings.{number_of, layer_of, place_of, tell};
+ghost use Rattle.refusal.specs.Tellings.{number_of, layer_of, place_of, same_telling, tell};
 ghost use Rattle.refusal.specs.declared.reason.Refusal.{Refusal as Any};
 ghost use Rattle.std.specs.Cmp.Rules.{comparing};
 ghost use Rattle.std.proofs.Common.{rules};
@@ -94,11 +96,14 @@ impl Refusal {
 
 // Two refusals are the same exactly when they are told alike.
 impl PartialEq for Refusal {
-    ghost equals = { λ x y r. Decides r (x ≡ y) };
+    ghost eq = { same_telling };
 
     ghost laws = { Keys.partial_equiv_from_equiv (Prim.search (comparing, rules)) };
 
-    fn eq(&self, other: &Refusal) -> bool {
+    fn eq(&self, other: &Refusal) -> bool
+        ensures value { result ≡ same_telling self.now other.now }
+        ensures same { Decides result (self.now ≡ other.now) }
+    {
         if self.number() != other.number() || self.place() != other.place() {
             return false;
         }

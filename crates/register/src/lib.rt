@@ -1,3 +1,5 @@
+#![tactic(auto)]
+
 // Registers: the best bounds on a model, kept from call to call. An open register takes no floor; an accepted delay settles
 // it; closing uses it up.
 mod book;

@@ -1,3 +1,5 @@
+#![tactic(auto)]
+
 // A whole run: a register is made over a model, given a list of calls, and closed.
 mod call;
 mod replaying;

@@ -1,3 +1,5 @@
+#![tactic(auto)]
+
 // What a register keeps: the best bounds so far and the counts of vectors, how a bracket meets a new bound, and the
 // questions that it answers.
 mod figures;

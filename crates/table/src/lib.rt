@@ -1,3 +1,5 @@
+#![tactic(auto)]
+
 ghost use Rattle.std.specs.Prelude.{◌≡◌, true, is_ok};
 ghost use Rattle.encoding.specs.Lists.{lists};
 ghost use Rattle.encoding.specs.Answers.{answer};

@@ -1,3 +1,5 @@
+#![tactic(auto)]
+
 // Tests of the text formats at the edges of their rules.
 #[cfg(test)]
 mod depots;

@@ -1,3 +1,5 @@
+#![tactic(auto)]
+
 // Tests of the five vector checks and of look-ahead. Expected values are worked out by hand from the inequalities.
 #[cfg(test)]
 mod flows;

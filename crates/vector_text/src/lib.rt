@@ -1,3 +1,5 @@
+#![tactic(auto)]
+
 // Vector text: one vector after another, each read whole or refused at its first bad line.
 mod automaton;
 mod format;

@@ -1,3 +1,5 @@
+#![tactic(auto)]
+
 ghost use Rattle.std.specs.Prelude.{◌≡◌, length, is_ok, Decides};
 ghost use Rattle.refusal.specs.Tellings.{told};
 ghost use Rattle.vectors.specs.Verdicts.{judgement, verdict, floor_verdict, floor_marks};

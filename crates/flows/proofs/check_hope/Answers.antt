@@ -5,7 +5,7 @@ use Rattle.flows.proofs.check_hope.Goals as goal
 pub returns : goal.returns
 returns g c =
     let p = g.M.Model.meaning c.args.model.now in
-    let e = c.judge-hope.ensures in
+    let e = c.judge_hope.ensures in
     let m = length c.args.marks.now in
     let t = length c.args.tally.now in
     record {

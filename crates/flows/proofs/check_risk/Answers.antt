@@ -5,7 +5,7 @@ use Rattle.flows.proofs.check_risk.Goals as goal
 pub returns : goal.returns
 returns g c =
     let p = g.M.Model.meaning c.args.model.now in
-    let e = c.judge-risk.ensures in
+    let e = c.judge_risk.ensures in
     let t = length c.args.tally.now in
     record {
       answer = e.answer;

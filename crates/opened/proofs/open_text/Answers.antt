@@ -6,5 +6,5 @@ use Rattle.opened.proofs.open_text.Goals as goal
 pub returns : goal.returns
 returns c =
     opens c.args.text.now (lists c.args.options.now c.args.starts.now c.args.moves.now)
-    (lists c.load.new.options c.load.new.starts c.load.new.moves) c.in-ok-size.size _ _
-    c.open.result c.in-ok-size.ensures.spelled c.open.ensures.spelled
+    (lists c.load.new.options c.load.new.starts c.load.new.moves) c.in_ok-size.size _ _
+    c.open.result c.in_ok-size.ensures.spelled c.open.ensures.spelled

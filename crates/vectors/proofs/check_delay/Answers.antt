@@ -5,7 +5,7 @@ use Rattle.vectors.proofs.check_delay.Goals as goal
 pub returns : goal.returns
 returns g c =
     let p = g.M.Model.meaning c.args.model.now in
-    let e = c.check-states.ensures in
+    let e = c.check_states.ensures in
     record {
       answer = e;
       accepts = verdict_decides Delay g.M.Model.scale p c.args.entries.now _ e;

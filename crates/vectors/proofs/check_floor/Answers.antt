@@ -5,7 +5,7 @@ use Rattle.vectors.proofs.check_floor.Goals as goal
 pub returns : goal.returns
 returns g c =
     let p = g.M.Model.meaning c.args.model.now in
-    let e = c.judge-floor.ensures in
+    let e = c.judge_floor.ensures in
     record {
       answer = e.answer;
       marks = e.marks;

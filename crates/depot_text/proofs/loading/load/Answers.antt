@@ -6,7 +6,7 @@ use Rattle.depot_text.proofs.loading.load.Goals as goal
 
 pub returns : goal.returns
 returns c =
-    let e = c.load-at.ensures in
+    let e = c.load_at.ensures in
     let old = lists c.args.options.now c.args.starts.now c.args.moves.now in
     record {
       answer = e.answer;

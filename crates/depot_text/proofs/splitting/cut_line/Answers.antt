@@ -6,7 +6,7 @@ use Rattle.depot_text.proofs.splitting.cut_line.Goals as goal
 
 pub returns : goal.returns
 returns c =
-    let w = c.line-width-end in
+    let w = c.line_width-end in
     record {
       first = ap (λ n. take n c.args.text.now) (sub-zero _) ∙ w.ensures.first;
       after = take_rest c.args.text.now _ ∙ w.ensures.after;

@@ -7,31 +7,31 @@ use Rattle.depot_text.proofs.splitting.split_input.Goals as goal
 pub loop-rest-init : goal.loop-rest-init
 loop-rest-init c = (parting_none c.args.input.now, omega arith)
 
-pub overflow-add-lines : goal.overflow-add-lines
-overflow-add-lines c = omega (arith, c.loop-rest.invariant.1)
+pub overflow_add-lines : goal.overflow_add-lines
+overflow_add-lines c = omega (arith, c.loop-rest.invariant.1)
 
-pub split-at-requires : goal.split-at-requires
-split-at-requires c = omega (arith, c.loop-rest.invariant.1, c.cut-line.ensures.less c.loop-rest-test.true)
+pub split_at-requires : goal.split_at-requires
+split_at-requires c = omega (arith, c.loop-rest.invariant.1, c.cut_line.ensures.less c.loop-rest-test.true)
 
-pub returns-then-same-bytes : goal.returns-then-same-bytes
-returns-then-same-bytes c =
-    let cut = c.cut-line.ensures in
+pub returns-then-same_bytes : goal.returns-then-same_bytes
+returns-then-same_bytes c =
+    let cut = c.cut_line.ensures in
     let p =
     part_found c.args.input.now c.loop-rest.rest.now _ _ c.loop-rest.lines c.loop-rest.invariant.0
-    c.loop-rest-test.true cut.first cut.after (sym c.if-same-bytes.ensures) in
-    let s = c.split-at.ensures in
+    c.loop-rest-test.true cut.first cut.after (sym c.if-same_bytes.ensures) in
+    let s = c.split_at.ensures in
     let less = cut.less c.loop-rest-test.true in
     record {
       depot = s.depot ∙ p.depot;
       lines = s.lines ∙ p.count;
       rest = s.rest ∙ p.rest;
-      near = omega (arith, c.loop-rest.invariant.1, s.lines, ap length s.rest, length-drop (length c.args.input.now - length c.cut-line.result.1.now) c.args.input.now);
+      near = omega (arith, c.loop-rest.invariant.1, s.lines, ap length s.rest, length-drop (length c.args.input.now - length c.cut_line.result.1.now) c.args.input.now);
     }
 
 pub loop-rest-preserved : goal.loop-rest-preserved
 loop-rest-preserved c =
-    let cut = c.cut-line.ensures in
-    let ends = ap ends_depot (sym cut.first) ∙ sym c.if-same-bytes.ensures in
+    let cut = c.cut_line.ensures in
+    let ends = ap ends_depot (sym cut.first) ∙ sym c.if-same_bytes.ensures in
     let more =
     parting_more c.args.input.now c.loop-rest.rest.now c.loop-rest.lines c.loop-rest.invariant.0
     c.loop-rest-test.true ends in (
@@ -44,7 +44,7 @@ returns c =
     let p =
     part_none c.args.input.now c.loop-rest.rest.now c.loop-rest.lines c.loop-rest.invariant.0
     (omega (arith, c.loop-rest-test.false)) in
-    let s = c.split-at-2.ensures in
+    let s = c.split_at-2.ensures in
     record {
       depot = s.depot ∙ p.depot;
       lines = s.lines ∙ p.count;

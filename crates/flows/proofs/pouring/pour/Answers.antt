@@ -15,21 +15,21 @@ credit-requires g c =
     record {
       some = omega (arith, f.some_state);
       within =
-          subst (λ (n : ℕ). Within n c.step-of-step.result.place) (sym (c.loop-i.auto.tally ∙ c.requires.level))
-          c.step-of-step.ensures.step.within;
+          subst (λ (n : ℕ). Within n c.step_of-step.result.place) (sym (c.loop-i.auto.tally ∙ c.requires.level))
+          c.step_of-step.ensures.step.within;
       room =
           λ s h.
-          pour_room _ _ _ _ _ _ _ _ _ (c.loop-i.invariant.0 s h) (c.step-of-step.ensures.step.mean_is (worth (one_at s) 0))
+          pour_room _ _ _ _ _ _ _ _ _ (c.loop-i.invariant.0 s h) (c.step_of-step.ensures.step.mean_is (worth (one_at s) 0))
           (mean-take (worth (one_at s) 0) _ _) (c.requires.room s (omega arith));
     }
 
-pub overflow-add-gained : goal.overflow-add-gained
-overflow-add-gained g c =
+pub overflow_add-gained : goal.overflow_add-gained
+overflow_add-gained g c =
     let ms = moves_of (g.M.Model.meaning c.args.model.now) c.args.state c.args.option in
     let room =
     gain_room _ _ _ _ _ _ _ c.loop-i.invariant.1 c.is_target.ensures
-    (c.step-of-step.ensures.step.mean_is (worth (λ _. 0) 1)) (omega arith)
-    (omega (arith, mean_le (worth (λ _. 0) 1) target_le (take (c.loop-i.i + 1) ms), c.step-of-step.ensures.step.limit)) in
+    (c.step_of-step.ensures.step.mean_is (worth (λ _. 0) 1)) (omega arith)
+    (omega (arith, mean_le (worth (λ _. 0) 1) target_le (take (c.loop-i.i + 1) ms), c.step_of-step.ensures.step.limit)) in
     omega arith
 
 pub loop-i-preserved : goal.loop-i-preserved
@@ -37,9 +37,9 @@ loop-i-preserved g c = (
   λ s h.
       let l : s < length c.loop-i.tally = omega arith in
       pour_turn _ _ _ _ _ _ _ _ (c.credit.ensures s l) (c.loop-i.invariant.0 s l)
-      (c.step-of-step.ensures.step.mean_is (worth (one_at s) 0)),
+      (c.step_of-step.ensures.step.mean_is (worth (one_at s) 0)),
   gain_turn _ _ _ _ _ _ _ c.loop-i.invariant.1 c.is_target.ensures
-      (c.step-of-step.ensures.step.mean_is (worth (λ _. 0) 1)),
+      (c.step_of-step.ensures.step.mean_is (worth (λ _. 0) 1)),
 )
 
 pub returns : goal.returns

@@ -21,14 +21,14 @@ pour-gained-requires g c =
             arith,
             c.loop-option.invariant.inflows s h,
             option_room g.M.Model.scale p (g.M.Model.formed m c.requires.valid) (worth (one_at s) 0) (hit_le s)
-                c.args.entries.now (λ i. omega (arith, c.type-inv.entries i)) c.args.state c.loop-option.option
-                c.span-of-span.result.first c.requires.state in-k c.requires.entries
-                (c.span-of-span.ensures.spanned.first c.requires.state),
+                c.args.entries.now (λ i. omega (arith, c.type_inv.entries i)) c.args.state c.loop-option.option
+                c.span_of-span.result.first c.requires.state in-k c.requires.entries
+                (c.span_of-span.ensures.spanned.first c.requires.state),
           );
     }
 
-pub overflow-add-gained : goal.overflow-add-gained
-overflow-add-gained g c =
+pub overflow_add-gained : goal.overflow_add-gained
+overflow_add-gained g c =
     let m = c.args.model.now in
     let p = g.M.Model.meaning m in
     let in-k : c.loop-option.option < length (get_or p c.args.state []) = omega arith in
@@ -37,9 +37,9 @@ overflow-add-gained g c =
       c.loop-option.invariant.gain,
       c.pour-gained.ensures.gain,
       option_room g.M.Model.scale p (g.M.Model.formed m c.requires.valid) (worth (λ _. 0) 1) target_le
-          c.args.entries.now (λ i. omega (arith, c.type-inv.entries i)) c.args.state c.loop-option.option
-          c.span-of-span.result.first c.requires.state in-k c.requires.entries
-          (c.span-of-span.ensures.spanned.first c.requires.state),
+          c.args.entries.now (λ i. omega (arith, c.type_inv.entries i)) c.args.state c.loop-option.option
+          c.span_of-span.result.first c.requires.state in-k c.requires.entries
+          (c.span_of-span.ensures.spanned.first c.requires.state),
     )
 
 pub loop-option-preserved : goal.loop-option-preserved
@@ -56,9 +56,9 @@ loop-option-preserved g c =
             c.pour-gained.ensures.inflow s l,
             c.loop-option.invariant.inflows s l,
             option_more g.M.Model.scale p (g.M.Model.formed m c.requires.valid) (worth (one_at s) 0) (hit_le s)
-                c.args.entries.now (λ i. omega (arith, c.type-inv.entries i)) c.args.state c.loop-option.option
-                c.span-of-span.result.first c.requires.state in-k c.requires.entries
-                (c.span-of-span.ensures.spanned.first c.requires.state),
+                c.args.entries.now (λ i. omega (arith, c.type_inv.entries i)) c.args.state c.loop-option.option
+                c.span_of-span.result.first c.requires.state in-k c.requires.entries
+                (c.span_of-span.ensures.spanned.first c.requires.state),
           );
       gain =
           omega (
@@ -66,9 +66,9 @@ loop-option-preserved g c =
             c.loop-option.invariant.gain,
             c.pour-gained.ensures.gain,
             option_more g.M.Model.scale p (g.M.Model.formed m c.requires.valid) (worth (λ _. 0) 1) target_le
-                c.args.entries.now (λ i. omega (arith, c.type-inv.entries i)) c.args.state c.loop-option.option
-                c.span-of-span.result.first c.requires.state in-k c.requires.entries
-                (c.span-of-span.ensures.spanned.first c.requires.state),
+                c.args.entries.now (λ i. omega (arith, c.type_inv.entries i)) c.args.state c.loop-option.option
+                c.span_of-span.result.first c.requires.state in-k c.requires.entries
+                (c.span_of-span.ensures.spanned.first c.requires.state),
           );
     }
 

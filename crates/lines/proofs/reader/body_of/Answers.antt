@@ -12,6 +12,6 @@ returns c =
     let at = c.args.at in
     let bs = c.args.body.now in
     let k = c.letters-k.result in
-    let keyed = cond-true _ _ _ (sym c.if-not-is-keyed.ensures.value) in
-    ◌∙◌ {b = heard at (valued (take k bs) (drop (k + 1) bs))} (simp (sub-zero, take_rest) at c.with-value.ensures)
+    let keyed = cond-true _ _ _ (sym c.if-not-is_keyed.ensures.value) in
+    ◌∙◌ {b = heard at (valued (take k bs) (drop (k + 1) bs))} (simp (sub-zero, take_rest) at c.with_value.ensures)
     (ap (heard at) (sym keyed ∙ ap (λ j. split j bs) c.letters-k.ensures))

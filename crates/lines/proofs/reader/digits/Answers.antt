@@ -5,9 +5,9 @@ use Rattle.lines.specs.Lines.{digits_on}
 use Rattle.lines.proofs.DigitTurns.{digits_refused, digits_over, digits_more}
 use Rattle.lines.proofs.reader.digits.Goals as goal
 
-pub returns-then-not-is-digit : goal.returns-then-not-is-digit
-returns-then-not-is-digit c =
-    let f = sym c.if-not-is-digit.ensures in
+pub returns-then-not-is_digit : goal.returns-then-not-is_digit
+returns-then-not-is_digit c =
+    let f = sym c.if-not-is_digit.ensures in
     sym (digits_refused c.loop-b.n c.args.s.now c.loop-b.b-index c.loop-b-test.true f)
     ∙ c.loop-b.invariant.1
 
@@ -18,7 +18,7 @@ returns-then-n-gt4294967295 c =
 
 pub loop-b-preserved : goal.loop-b-preserved
 loop-b-preserved c =
-    let t = sym c.if-not-is-digit.ensures in
+    let t = sym c.if-not-is_digit.ensures in
     let more = digits_more c.loop-b.n c.args.s.now c.loop-b.b-index c.loop-b-test.true in
     (omega arith, sym (more c.from.result c.from.ensures t c.if-n-gt4294967295.false) ∙ c.loop-b.invariant.1)
 

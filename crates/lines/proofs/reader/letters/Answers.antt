@@ -4,14 +4,14 @@ use Rattle.std.proofs.lemmas.List.Sums.{prefix_len-drop_yes, prefix_len-drop_no,
 use Rattle.lines.specs.Bytes.{is_letter}
 use Rattle.lines.proofs.reader.letters.Goals as goal
 
-pub returns-then-not-is-letter : goal.returns-then-not-is-letter
-returns-then-not-is-letter c =
-    let f = sym c.if-not-is-letter.ensures in
+pub returns-then-not-is_letter : goal.returns-then-not-is_letter
+returns-then-not-is_letter c =
+    let f = sym c.if-not-is_letter.ensures in
     omega (arith, prefix_len-drop_no is_letter c.args.s.now c.loop-i.i 0 c.loop-i-test.true f)
 
 pub loop-i-preserved : goal.loop-i-preserved
 loop-i-preserved c =
-    let t = sym c.if-not-is-letter.ensures in
+    let t = sym c.if-not-is_letter.ensures in
     omega (arith, prefix_len-drop_yes is_letter c.args.s.now c.loop-i.i 0 c.loop-i-test.true t)
 
 pub returns : goal.returns

@@ -7,5 +7,5 @@ use Rattle.lines.proofs.reader.line_of.Goals as goal
 
 pub returns : goal.returns
 returns c =
-    simp (sub-zero) at c.body-of.ensures
-    ∙ ap (heard c.args.at) (sym (cond-true _ _ _ (sym c.if-not-is-newline.ensures)))
+    simp (sub-zero) at c.body_of.ensures
+    ∙ ap (heard c.args.at) (sym (cond-true _ _ _ (sym c.if-not-is_newline.ensures)))

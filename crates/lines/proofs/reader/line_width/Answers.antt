@@ -6,10 +6,10 @@ use Rattle.std.proofs.lemmas.List.Sums.{prefix_len-drop_yes, prefix_len-drop_no,
 use Rattle.lines.specs.Lines.{inside}
 use Rattle.lines.proofs.reader.line_width.Goals as goal
 
-pub returns-then-is-newline : goal.returns-then-is-newline
-returns-then-is-newline c =
+pub returns-then-is_newline : goal.returns-then-is_newline
+returns-then-is_newline c =
     let bs = c.args.s.now in
-    let f = ap not (sym c.if-is-newline.ensures) in
+    let f = ap not (sym c.if-is_newline.ensures) in
     let none = prefix_len-drop_no inside bs c.loop-i.i 0 c.loop-i-test.true f in
     let here : c.loop-i.i ≡ prefix_len inside bs = omega arith in
     record {
@@ -21,7 +21,7 @@ returns-then-is-newline c =
 
 pub loop-i-preserved : goal.loop-i-preserved
 loop-i-preserved c =
-    let t = ap not (sym c.if-is-newline.ensures) in
+    let t = ap not (sym c.if-is_newline.ensures) in
     omega (arith, prefix_len-drop_yes inside c.args.s.now c.loop-i.i 0 c.loop-i-test.true t)
 
 pub returns : goal.returns

@@ -19,7 +19,7 @@ pub returns-in-Some : goal.returns-in-Some
 returns-in-Some c =
     let at = c.args.at in
     let t = c.args.text.now in
-    let w = c.line-width-end in
+    let w = c.line_width-end in
     let h = simp sub-zero at c.in-Some.ensures in
     let is = retold_line at w.result t _ (omega arith) w.ensures.first w.ensures.after h in
     record {
@@ -32,7 +32,7 @@ pub returns-in-None : goal.returns-in-None
 returns-in-None c =
     let at = c.args.at in
     let t = c.args.text.now in
-    let w = c.line-width-end in
+    let w = c.line_width-end in
     let h = simp sub-zero at c.in-None.ensures in
     let is = retold_line at w.result t _ (omega arith) w.ensures.first w.ensures.after h in
     record { answer = is; written = subst (ReadAsWritten at t) (sym is) (read_law at t); less = tt }

@@ -6,8 +6,8 @@ use Rattle.table.specs.View.{lists_of}
 use Rattle.lookahead.specs.Answers.{narrow}
 use Rattle.lookahead.proofs.reach.first_crowded.Goals as goal
 
-pub returns-then-move-count-gt-MOVE-LIMIT : goal.returns-then-move-count-gt-MOVE-LIMIT
-returns-then-move-count-gt-MOVE-LIMIT c =
+pub returns-then-move_count-gt-MOVE_LIMIT : goal.returns-then-move_count-gt-MOVE_LIMIT
+returns-then-move_count-gt-MOVE_LIMIT c =
     let p = process_read (lists_of c.args.table.now) in
     search_found narrow p c.loop-state.state c.loop-state.invariant [] (omega arith) (lt-leb _ _ (omega arith))
 

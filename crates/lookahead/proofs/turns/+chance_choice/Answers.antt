@@ -14,12 +14,12 @@ use Rattle.lookahead.proofs.turns.+chance_choice.Goals.{chance-in-State, chance-
 pub chance-pow-certain-requires : goal.chance-pow-certain-requires
 chance-pow-certain-requires t c = power_fits c.args.depth (omega arith)
 
-pub chance-overflow-add-sum : goal.chance-overflow-add-sum
-chance-overflow-add-sum t c =
+pub chance-overflow_add-sum : goal.chance-overflow_add-sum
+chance-overflow_add-sum t c =
     let p = process_read (lists_of c.args.table.now) in
     let from = outlook c.args.side 1000 p c.args.depth in
     let f = worth from (1000 ^ c.args.depth) in
-    let hits : c.match-step.hits ≡ f c.step-of-step.result.place =
+    let hits : c.match-step.hits ≡ f c.step_of-step.result.place =
     elim c.match-step.branch [
       | chance-in-State w ↦
           let next : w.choice-hits.result ≡ from w.in-State.next = w.choice-hits.ensures in
@@ -29,14 +29,14 @@ chance-overflow-add-sum t c =
     ] in
     omega (
       arith,
-      ap (λ (x : ℕ). c.step-of-step.result.weight * x) hits,
-      c.step-of-step.ensures.step.mean_is f,
+      ap (λ (x : ℕ). c.step_of-step.result.weight * x) hits,
+      c.step_of-step.ensures.step.mean_is f,
       sum_fits p (formed_table c.args.table.now) c.args.side c.args.depth c.args.state c.args.option
           (c.loop-index.index + 1) c.requires,
     )
 
-pub chance-overflow-mul-sum : goal.chance-overflow-mul-sum
-chance-overflow-mul-sum t c = omega (arith, chance-overflow-add-sum t c)
+pub chance-overflow_mul-sum : goal.chance-overflow_mul-sum
+chance-overflow_mul-sum t c = omega (arith, chance-overflow_add-sum t c)
 
 pub chance-returns : goal.chance-returns
 chance-returns t c =

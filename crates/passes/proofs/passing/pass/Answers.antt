@@ -17,24 +17,24 @@ loop-state-init g c = (
 pub loop-state-preserved : goal.loop-state-preserved
 loop-state-preserved g c =
     let l = c.loop-state in
-    let told = c.in-ok-passed.ensures in (
+    let told = c.in_ok-passed.ensures in (
       goes_on g.A.Automaton.next g.A.Automaton.ended g.A.Automaton.puts c.args.first c.args.text.now
           c.args.start c.args.writes (view c.args.lists.now) l.state l.at l.rest.now (view l.lists)
           l.invariant.0 _ _ _ _ (sym c.loop-state-test.ensures) told.answer told.less.0 told.less.1
-          c.put-if.ensures.lists,
-      c.put-if.ensures.options ∙ l.invariant.1,
-      c.put-if.ensures.starts ∙ l.invariant.2,
-      c.put-if.ensures.moves ∙ l.invariant.3,
+          c.put_if.ensures.lists,
+      c.put_if.ensures.options ∙ l.invariant.1,
+      c.put_if.ensures.starts ∙ l.invariant.2,
+      c.put_if.ensures.moves ∙ l.invariant.3,
     )
 
-pub returns-in-err-passed : goal.returns-in-err-passed
-returns-in-err-passed g c =
+pub returns-in_err-passed : goal.returns-in_err-passed
+returns-in_err-passed g c =
     let p = err_from_is_err_and c.from-residual.result c.from-residual.ensures.1 in
     let l = c.loop-state in
     let e =
     stops g.A.Automaton.next g.A.Automaton.ended g.A.Automaton.puts c.args.first c.args.text.now
     c.args.start c.args.writes (view c.args.lists.now) l.state l.at l.rest.now (view l.lists)
-    l.invariant.0 _ (sym c.loop-state-test.ensures) c.in-err-passed.ensures.answer in
+    l.invariant.0 _ (sym c.loop-state-test.ensures) c.in_err-passed.ensures.answer in
     rw (p.1, p.2) (record { answer = e.0; moved = tt; near = tt; lists = e.1; options = l.invariant.1; starts = l.invariant.2; moves = l.invariant.3 })
 
 pub returns : goal.returns

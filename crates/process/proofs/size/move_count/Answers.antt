@@ -4,8 +4,8 @@ use Rattle.process.specs.Process.{joined}
 use Rattle.process.proofs.Joined.{length-joined_more, length-joined-take, length-joined-at}
 use Rattle.process.proofs.size.move_count.Goals as goal
 
-pub overflow-add-count : goal.overflow-add-count
-overflow-add-count g c =
+pub overflow_add-count : goal.overflow_add-count
+overflow_add-count g c =
     let p = g.M.Model.meaning c.args.model.now in
     let f = g.M.Model.formed c.args.model.now c.requires in
     let os = get_or p c.args.state [] in

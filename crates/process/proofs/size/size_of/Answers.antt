@@ -4,8 +4,8 @@ use Rattle.process.specs.Process.{joined}
 use Rattle.process.proofs.Joined.{length-joined_more, length-joined_twice_more, length-joined-take, length-joined_twice_take}
 use Rattle.process.proofs.size.size_of.Goals as goal
 
-pub overflow-add-options : goal.overflow-add-options
-overflow-add-options g c =
+pub overflow_add-options : goal.overflow_add-options
+overflow_add-options g c =
     let p = g.M.Model.meaning c.args.model.now in
     let f = g.M.Model.formed c.args.model.now c.requires in
     omega (
@@ -15,8 +15,8 @@ overflow-add-options g c =
       f.option_limit,
     )
 
-pub overflow-add-moves : goal.overflow-add-moves
-overflow-add-moves g c =
+pub overflow_add-moves : goal.overflow_add-moves
+overflow_add-moves g c =
     let p = g.M.Model.meaning c.args.model.now in
     let f = g.M.Model.formed c.args.model.now c.requires in
     omega (

@@ -10,7 +10,7 @@ returns g c =
       value =
           omega (
             arith,
-            c.span-of-last.ensures.spanned.first (omega (arith, f.some_state)),
+            c.span_of-last.ensures.spanned.first (omega (arith, f.some_state)),
             span_end (g.M.Model.meaning m) (c.states.result - 1) (omega (arith, f.some_state)) (omega arith),
           );
       limit = omega arith;

@@ -10,8 +10,8 @@ pub apply-next-requires : goal.apply-next-requires
 apply-next-requires g c =
     subst g.M.Model.valid (sym (c.loop-call.invariant.2 ∙ c.new.ensures.model)) c.requires
 
-pub close-stage-requires : goal.close-stage-requires
-close-stage-requires g c =
+pub close_stage-requires : goal.close_stage-requires
+close_stage-requires g c =
     subst g.M.Model.valid (sym (c.loop-call.invariant.2 ∙ c.new.ensures.model)) c.requires
 
 pub loop-call-preserved : goal.loop-call-preserved
@@ -29,10 +29,10 @@ loop-call-preserved g c =
       n.model ∙ c.loop-call.invariant.2,
       along-step d p (g.M.Model.meaning (model_of c.loop-call.stage)) (opened c.new.result.sheet)
           c.args.calls.now c.loop-call.calls c.loop-call.call-index (vec_items c.loop-call.answers)
-          (vec_items c.push-reserved.new.self) s (standing c.apply-next.result.0) x c.apply-next.new.call
+          (vec_items c.push_reserved.new.self) s (standing c.apply-next.result.0) x c.apply-next.new.call
           c.apply-next.result.1 e hg hn
           (ap (λ d. get_or c.loop-call.calls c.loop-call.call-index d) c.call-item.is) n.standing n.answer
-          n.left c.push-reserved.ensures.items c.loop-call.invariant.3,
+          n.left c.push_reserved.ensures.items c.loop-call.invariant.3,
     )
 
 pub returns : goal.returns
@@ -47,7 +47,7 @@ returns g c =
     let em : c.new.result.model ≡ c.args.model = c.new.ensures.model in
     let es : opened c.new.result.sheet ≡ first_standing = c.new.ensures.standing in
     let ef : standing c.loop-call.stage ≡ final d p given first_standing = cc in
-    let eb : c.close-stage.result.sheet ≡ (final d p given first_standing).sheet = cc in
+    let eb : c.close_stage.result.sheet ≡ (final d p given first_standing).sheet = cc in
     let ea : map reply_of (vec_items c.loop-call.answers) ≡ replies d p given first_standing = cc in
     let el : map act_of c.loop-call.calls ≡ all_left d p given first_standing = cc in
     record {

@@ -6,11 +6,11 @@ use Rattle.encoding.specs.Reading.{process_read}
 use Rattle.encoding.proofs.Law.{answer_law}
 use Rattle.table.proofs.Table.open.Goals as goal
 
-pub returns-in-err-check-lists : goal.returns-in-err-check-lists
-returns-in-err-check-lists c =
+pub returns-in_err-check_lists : goal.returns-in_err-check_lists
+returns-in_err-check_lists c =
     let p = err_from_is_err_and c.from-residual.result c.from-residual.ensures.1 in
     let l = lists c.args.options.now c.args.starts.now c.args.moves.now in
-    let e = c.in-err-check-lists.ensures in
+    let e = c.in_err-check_lists.ensures in
     rw (p.1, p.2)
     (record {
       answer = e;
@@ -21,7 +21,7 @@ returns-in-err-check-lists c =
 pub returns : goal.returns
 returns c =
     let l = lists c.args.options.now c.args.starts.now c.args.moves.now in
-    let e = c.in-ok-check-lists.ensures in
+    let e = c.in_ok-check_lists.ensures in
     record {
       answer = e;
       lists = c.over.ensures;

@@ -2,8 +2,8 @@ use Rattle.std.proofs.Common.{refl, arith}
 use Rattle.table.proofs.Found.{good, run_within}
 use Rattle.table.proofs.Table.run_of.Goals as goal
 
-pub overflow-sub-result : goal.overflow-sub-result
-overflow-sub-result c = omega (arith, (run_within 1000 _ (good c.args.self.now) c.args.number c.requires).0)
+pub overflow_sub-result : goal.overflow_sub-result
+overflow_sub-result c = omega (arith, (run_within 1000 _ (good c.args.self.now) c.args.number c.requires).0)
 
 pub returns : goal.returns
 returns c =

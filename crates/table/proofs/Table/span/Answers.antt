@@ -6,8 +6,8 @@ use Rattle.table.proofs.Table.span.Goals as goal
 pub returns-then-state-self : goal.returns-then-state-self
 returns-then-state-self c = record { value = sym (cond-false _ _ _ (le-ltb _ _ c.if-state-self.true)); within = tt }
 
-pub overflow-sub-result : goal.overflow-sub-result
-overflow-sub-result c = omega (arith, (span_within 1000 _ (good c.args.self.now) c.args.state c.if-state-self.false).0)
+pub overflow_sub-result : goal.overflow_sub-result
+overflow_sub-result c = omega (arith, (span_within 1000 _ (good c.args.self.now) c.args.state c.if-state-self.false).0)
 
 pub returns : goal.returns
 returns c =

@@ -7,16 +7,16 @@ use Rattle.table.proofs.checks.bad_move.Goals as goal
 
 pub returns-then-not-fits : goal.returns-then-not-fits
 returns-then-not-fits c =
-    let m = c.read-move.result in
-    let here = moves_read-at c.args.moves.now c.loop-i.i m c.loop-i-test.true ∙ sym c.read-move.ensures in
+    let m = c.read_move.result in
+    let here = moves_read-at c.args.moves.now c.loop-i.i m c.loop-i-test.true ∙ sym c.read_move.ensures in
     search_found (move_fits c.args.scale c.args.states) (moves_read c.args.moves.now) c.loop-i.i c.loop-i.invariant
     m (omega (arith, length-moves_read c.args.moves.now))
     (ap (move_fits c.args.scale c.args.states) here ∙ sym c.if-not-fits.ensures)
 
 pub loop-i-preserved : goal.loop-i-preserved
 loop-i-preserved c =
-    let m = c.read-move.result in
-    let here = moves_read-at c.args.moves.now c.loop-i.i m c.loop-i-test.true ∙ sym c.read-move.ensures in
+    let m = c.read_move.result in
+    let here = moves_read-at c.args.moves.now c.loop-i.i m c.loop-i-test.true ∙ sym c.read_move.ensures in
     search_on (move_fits c.args.scale c.args.states) (moves_read c.args.moves.now) c.loop-i.i c.loop-i.invariant
     m (omega (arith, length-moves_read c.args.moves.now))
     (ap (move_fits c.args.scale c.args.states) here ∙ sym c.if-not-fits.ensures)

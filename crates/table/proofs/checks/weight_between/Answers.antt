@@ -4,7 +4,7 @@ use Rattle.table.proofs.checks.weight_between.Goals as goal
 
 pub loop-i-preserved : goal.loop-i-preserved
 loop-i-preserved c =
-    let w = ap (λ m. m.weight) c.read-move.ensures in (
+    let w = ap (λ m. m.weight) c.read_move.ensures in (
       omega (arith, w, weights_turn c.args.moves.now c.args.from c.loop-i.i (omega arith) (omega arith)),
-      omega (arith, w, (c.type-inv.moves (2 * c.loop-i.i + 1)).fits),
+      omega (arith, w, (c.type_inv.moves (2 * c.loop-i.i + 1)).fits),
     )

@@ -4,7 +4,7 @@ use Rattle.vector_text.proofs.reading.read_vector.Goals as goal
 
 pub returns : goal.returns
 returns c =
-    let e = c.read-into.ensures in
+    let e = c.read_into.ensures in
     record {
       answer = e.answer;
       near = e.near;

@@ -8,5 +8,5 @@ returns g c =
     let p = g.M.Model.meaning c.args.model.now in
     c.holds.ensures
     ∙ sides c.args.kind g.M.Model.scale (length p) c.args.entries.now c.args.state
-    (moves_of p c.args.state c.args.option) _ _ _ _ (omega arith) c.total-weight-scale.ensures
-    c.charge-charge.ensures c.reward.ensures c.sum-moves-given.ensures.sum
+    (moves_of p c.args.state c.args.option) _ _ _ _ (omega arith) c.total_weight-scale.ensures
+    c.charge-charge.ensures c.reward.ensures c.sum_moves-given.ensures.sum

@@ -13,7 +13,7 @@ pub loop-option-preserved : goal.loop-option-preserved
 loop-option-preserved g c =
     let p = g.M.Model.meaning c.args.model.now in
     let ok = holds_at c.args.kind g.M.Model.scale (length p) c.args.entries.now in
-    sym (search_next ok p c.loop-state.state c.loop-option.option (omega arith) c.if-not-fair-at.ensures)
+    sym (search_next ok p c.loop-state.state c.loop-option.option (omega arith) c.if-not-fair_at.ensures)
     ∙ c.loop-option.invariant
 
 pub loop-state-preserved : goal.loop-state-preserved
@@ -22,12 +22,12 @@ loop-state-preserved g c =
     let ok = holds_at c.args.kind g.M.Model.scale (length p) c.args.entries.now in
     sym (search_out ok p c.loop-state.state c.loop-option.option (omega arith) (omega arith)) ∙ c.loop-option.invariant
 
-pub returns-then-not-fair-at : goal.returns-then-not-fair-at
-returns-then-not-fair-at g c =
+pub returns-then-not-fair_at : goal.returns-then-not-fair_at
+returns-then-not-fair_at g c =
     let p = g.M.Model.meaning c.args.model.now in
     let ok = holds_at c.args.kind g.M.Model.scale (length p) c.args.entries.now in
-    sym (search_here ok p c.loop-state.state c.loop-option.option (omega arith) c.span-of-span.result.first
-    (c.span-of-span.ensures.spanned.first (omega arith)) c.if-not-fair-at.ensures)
+    sym (search_here ok p c.loop-state.state c.loop-option.option (omega arith) c.span_of-span.result.first
+    (c.span_of-span.ensures.spanned.first (omega arith)) c.if-not-fair_at.ensures)
     ∙ c.loop-option.invariant
 
 pub returns-after-loop-state : goal.returns-after-loop-state

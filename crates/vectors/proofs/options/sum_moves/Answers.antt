@@ -7,28 +7,28 @@ use Rattle.process.proofs.Walks.{bound_turn, weights-limit}
 use Rattle.bounds.specs.Vectors.{value_at}
 use Rattle.vectors.proofs.options.sum_moves.Goals as goal
 
-pub worth-of-requires : goal.worth-of-requires
-worth-of-requires g c =
+pub worth_of-requires : goal.worth_of-requires
+worth_of-requires g c =
     let f = g.M.Model.formed c.args.model.now c.requires.valid in
     record {
       some = omega (arith, f.some_state);
-      within = subst (λ (n : ℕ). Within n c.step-of-step.result.place) (sym c.requires.level) c.step-of-step.ensures.step.within;
+      within = subst (λ (n : ℕ). Within n c.step_of-step.result.place) (sym c.requires.level) c.step_of-step.ensures.step.within;
     }
 
-pub overflow-add-total : goal.overflow-add-total
-overflow-add-total g c =
+pub overflow_add-total : goal.overflow_add-total
+overflow_add-total g c =
     omega (
       arith,
-      bound_turn _ _ _ _ _ c.loop-i.invariant.1 c.worth-of.ensures.bound c.step-of-step.ensures.step.weights_is,
-      c.step-of-step.ensures.step.limit,
+      bound_turn _ _ _ _ _ c.loop-i.invariant.1 c.worth_of.ensures.bound c.step_of-step.ensures.step.weights_is,
+      c.step_of-step.ensures.step.limit,
     )
 
 pub loop-i-preserved : goal.loop-i-preserved
 loop-i-preserved g c =
-    let e = c.step-of-step.ensures.step.mean_is (worth (value_at c.args.entries.now) c.args.reward) in
-    let v = ap (λ (x : ℕ). c.step-of-step.result.weight * x) c.worth-of.ensures.value in (
+    let e = c.step_of-step.ensures.step.mean_is (worth (value_at c.args.entries.now) c.args.reward) in
+    let v = ap (λ (x : ℕ). c.step_of-step.result.weight * x) c.worth_of.ensures.value in (
       omega (arith, e, v, c.loop-i.invariant.0),
-      bound_turn _ _ _ _ _ c.loop-i.invariant.1 c.worth-of.ensures.bound c.step-of-step.ensures.step.weights_is,
+      bound_turn _ _ _ _ _ c.loop-i.invariant.1 c.worth_of.ensures.bound c.step_of-step.ensures.step.weights_is,
     )
 
 pub returns : goal.returns

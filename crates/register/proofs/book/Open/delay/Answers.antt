@@ -8,12 +8,12 @@ use Rattle.register.proofs.book.Open.delay.Goals as goal
 
 pub returns : goal.returns
 returns g c =
-    let e = c.take-delay.ensures in
+    let e = c.take_delay.ensures in
     let d = g.M.Model.scale in
     let p = g.M.Model.meaning c.args.self.model in
     let s = c.args.self.sheet in
     let v = delay c.args.entries.now in
-    let r = c.take-delay.result in
+    let r = c.take_delay.result in
     record {
       step =
           stepped d p (takes v) (takes v) (opened s) (standing_after r) (replied (told_after r)) e.answer

@@ -6,11 +6,11 @@ use Rattle.register.proofs.book.Open.hope.Goals as goal
 pub returns : goal.returns
 returns g c =
     let m = c.args.self.now.model in
-    let e = c.take-hope.ensures in
+    let e = c.take_hope.ensures in
     record {
       step =
           vector_stepped g.M.Model.scale (g.M.Model.meaning m) (hope c.args.entries.now c.args.marks.now c.args.tally.now)
-          (hope c.args.entries.now c.take-hope.new.marks c.take-hope.new.tally) false c.args.self.now.sheet _ _ refl refl e.answer e.sheet
+          (hope c.args.entries.now c.take_hope.new.marks c.take_hope.new.tally) false c.args.self.now.sheet _ _ refl refl e.answer e.sheet
           (ap₂ (hope c.args.entries.now) e.marks e.tally);
       model = refl;
     }

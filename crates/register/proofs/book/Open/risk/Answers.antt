@@ -6,11 +6,11 @@ use Rattle.register.proofs.book.Open.risk.Goals as goal
 pub returns : goal.returns
 returns g c =
     let m = c.args.self.now.model in
-    let e = c.take-risk.ensures in
+    let e = c.take_risk.ensures in
     record {
       step =
           vector_stepped g.M.Model.scale (g.M.Model.meaning m) (risk c.args.entries.now c.args.tally.now)
-          (risk c.args.entries.now c.take-risk.new.tally) false c.args.self.now.sheet _ _ refl refl e.answer e.sheet
+          (risk c.args.entries.now c.take_risk.new.tally) false c.args.self.now.sheet _ _ refl refl e.answer e.sheet
           (ap (risk c.args.entries.now) e.tally);
       model = refl;
     }

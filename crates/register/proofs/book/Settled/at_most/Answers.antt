@@ -9,4 +9,4 @@ returns g c =
     let act = asks_most c.args.chance in
     let s = settled_at c.args.self.now.sheet in
     stepped g.M.Model.scale (g.M.Model.meaning c.args.self.now.model) act act s s _
-    (ap spoken c.at-most.ensures) refl refl
+    (ap spoken c.at_most.ensures) refl refl

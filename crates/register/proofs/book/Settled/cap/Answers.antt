@@ -6,7 +6,7 @@ use Rattle.register.proofs.book.Settled.cap.Goals as goal
 pub returns : goal.returns
 returns g c =
     let m = c.args.self.now.model in
-    let e = c.take-cap.ensures in
+    let e = c.take_cap.ensures in
     record {
       step =
           vector_stepped g.M.Model.scale (g.M.Model.meaning m) (cap c.args.entries.now)

@@ -11,7 +11,7 @@ returns-in-None c =
 
 pub returns-then-index-run : goal.returns-then-index-run
 returns-then-index-run c =
-    ap Some c.read-move.ensures
+    ap Some c.read_move.ensures
     ∙ (sym (cond-true (ltb c.args.index c.in-Some.run'.count) _ _ (lt-ltb _ _ c.if-index-run.true))
     ∙ (ap (λ w. run_move c.args.self.now.moves.now w c.args.index) c.in-Some.ensures.value
     ∙ sym (move_found 1000 _ (good c.args.self.now) c.args.state c.args.option c.args.index)))
