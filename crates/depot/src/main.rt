@@ -8,7 +8,7 @@ use opened::open_text;
 use process::size_of;
 use std::io::Read;
 use std::{env, fs, io};
-use table::{Table, TableModel};
+use table::Table;
 use vector_text::read_vector;
 
 mod telling;

@@ -9,7 +9,7 @@ ghost use Rattle.ladder.specs.Laws.{formed_ladder};
 mod chances;
 
 pub use chances::Chances;
-use process::{End, Model, Move, Place, Span};
+use process::{End, Model as ProcessModel, Move, Place, Span};
 use refusal::Refusal;
 
 // A contactor that is tried again and again, at forty amps (option 0) or at twenty (option 1). State s means that s
@@ -89,7 +89,7 @@ fn fit(chances: Chances) -> bool
     u64::from(chances.target) + u64::from(chances.exit) + u64::from(chances.again) <= 4096
 }
 
-pub impl Model for Ladder as LadderModel {
+impl ProcessModel for Ladder {
     const SCALE: u32 = 4096;
 
     ghost scale = { 4096 };

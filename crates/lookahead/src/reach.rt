@@ -5,7 +5,7 @@ ghost use Rattle.table.specs.View.{lists_of};
 ghost use Rattle.lookahead.specs.Answers.{too_wide};
 
 use process::{Model, move_count};
-use table::{Table, TableModel};
+use table::Table;
 
 pub(crate) const DEPTH_LIMIT: u32 = 6;
 

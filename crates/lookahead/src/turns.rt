@@ -6,7 +6,7 @@ ghost use Rattle.table.specs.View.{lists_of};
 ghost use Rattle.lookahead.specs.Sides.{kept, outlook, mean_outlook};
 
 use process::{End, Place, count_of, option_count, step_of};
-use table::{Table, TableModel};
+use table::Table;
 
 // What the controller plays for: the most hits or the fewest.
 #[derive(Clone, Copy)]

@@ -73,7 +73,7 @@ fn the_longest_ladder(rt: HostRuntime) -> Result<(), Fail> {
     let ladder = Ladder::new(4096, chances(1, 1, 1), chances(2, 2, 2))?;
     let size = size_of(&ladder);
     assert!(rt; size.states == 4096 && size.options == 8192 && size.moves == 32768);
-    assert_eq!(rt; LadderModel::total_weight(), 4096);
+    assert_eq!(rt; Ladder::total_weight(), 4096);
     assert!(rt; leads(ladder.move_at(4095, 0, 3), Place::End(End::Exit), 4093));
     assert!(rt; leads(ladder.move_at(4094, 0, 3), Place::State(4095), 4093));
     Ok(())

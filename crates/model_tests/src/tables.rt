@@ -2,7 +2,7 @@ use crate::shapes::equal;
 use process::{End, Model, Place, size_of};
 use refusal::Refusal;
 use std::test::Fail;
-use table::{Table, TableModel};
+use table::Table;
 
 // number and place of what opening answers; 0 and 0 if it accepts
 fn opened<'a>(options: &'a [u32], starts: &'a [u32], moves: &'a [u32]) -> (u8, usize) {

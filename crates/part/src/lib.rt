@@ -3,23 +3,23 @@
 ghost use Rattle.std.specs.Prelude.{◌≡◌, ◌<◌, ◌≤◌, length, is_ok, if◌then◌else◌};
 ghost use Rattle.refusal.specs.Tellings.{told};
 ghost use Rattle.process.specs.Process.{Within};
-ghost use Rattle.process.specs.Parts.{sent as sent-to, kept_move, part_of};
+ghost use Rattle.process.specs.Parts.{sent as sent_to, kept_move, part_of};
 ghost use Rattle.process.proofs.Parts.{part_formed};
 ghost use Rattle.part.specs.Marks.{set_of, none, marked, answer, leaves};
 
-use process::{End, Model, Move, Place, Span};
+use process::{End, Model as ProcessModel, Move, Place, Span};
 use refusal::Refusal;
 
 // A model that keeps some of the states of the one below: a move leads to the exit if its own state or the state that
 // it leads to is not kept. The set is the part's own, so nothing stays borrowed after a fill.
 #[derive(Drop)]
-pub struct Part<M: Model> {
+pub struct Part<M: ProcessModel> {
     below: M,
     kept: [bool; 4096],
     ghost long: { length kept ≡ 4096 },
 }
 
-impl<M: Model> Part<M> {
+impl<M: ProcessModel> Part<M> {
     // A part that keeps no state yet.
     pub fn new(below: M) -> Self
         ensures below { result.below ≡ below }
@@ -64,7 +64,7 @@ impl<M: Model> Part<M> {
     fn sent(&self, state: usize, m: Move) -> Move
         requires state { state < 4096 }
         requires place { Within 4096 m.place }
-        ensures { result ≡ sent-to (kept_move (set_of self.now.kept) state) m }
+        ensures { result ≡ sent_to (kept_move (set_of self.now.kept) state) m }
     {
         let stays = self.kept[state] & self.keeps_place(m.place);
         Move {
@@ -104,7 +104,7 @@ fn flags(marks: &[u8]) -> [bool; 4096]
     set
 }
 
-pub impl<M: Model> Model for Part<M> as PartModel {
+impl<M: ProcessModel> ProcessModel for Part<M> {
     const SCALE: u32 = M::SCALE;
 
     ghost scale = { M.Model.scale };

@@ -6,7 +6,7 @@ ghost use Rattle.table.specs.Laws.{formed_table};
 
 use crate::Table;
 use crate::reading::read_move;
-use process::{Model, Move, Span};
+use process::{Model as ProcessModel, Move, Span};
 
 impl Table<'_> {
     // the options of a state, counted through the whole table
@@ -51,7 +51,7 @@ impl Table<'_> {
     }
 }
 
-pub impl<'a> Model for Table<'a> as TableModel {
+impl<'a> ProcessModel for Table<'a> {
     const SCALE: u32 = 1000;
 
     ghost scale = { 1000 };

@@ -5,7 +5,7 @@ use kinds::FlowKind;
 use part::Part;
 use process::Model;
 use std::test::Fail;
-use table::{Table, TableModel};
+use table::Table;
 
 // What a check gives and leaves: bound and visits, number and place, marks and tally.
 type Found = ((u64, u64), (u8, usize), [u8; 2], [u64; 2]);

@@ -2,7 +2,7 @@
 use crate::worked::{MOVES, OPTIONS, STARTS, told};
 use kinds::StateKind;
 use std::test::Fail;
-use table::{Table, TableModel};
+use table::Table;
 use vectors::{check_cap, check_delay, check_floor};
 
 // the bound of a vector of so many entries, or number and place of the refusal

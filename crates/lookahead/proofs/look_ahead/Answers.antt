@@ -26,7 +26,7 @@ returns c =
     let formed = formed_table c.args.table.now in
     record {
       answer =
-          answered 1000 p c.args.depth c.choice.result c.choice-2.result (omega arith) c.in-default.ensures
+          answered 1000 p c.args.depth c.choice.result c.choice-2.result (omega arith) c.in_default.ensures
           c.choice.ensures c.choice-2.ensures;
       orders = λ h e. over_all_orders 1000 p formed c.args.depth h.greatest h.least (cc) (cc);
     }

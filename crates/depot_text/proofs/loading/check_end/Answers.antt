@@ -13,14 +13,14 @@ returns-then-rest-eq0 c =
     ap (λ t. nothing_after c.args.depot c.args.at (lines t))
     (sym (nil_from_length c.args.rest.now c.if-rest-eq0.true))
 
-pub returns-in_err--read : goal.returns-in-err--read
-returns-in_err--read c =
-    let p = err_from_is_err_and c.from-residual.result c.from-residual.ensures.1 in
+pub returns-in_err-_read : goal.returns-in-err--read
+returns-in_err-_read c =
+    let p = err_from_is_err_and c.from_residual.result c.from_residual.ensures.1 in
     rw (p.1, p.2)
-    (ap (λ v. then v (too_late c.args.depot c.args.at)) c.in_err--read.ensures.answer
+    (ap (λ v. then v (too_late c.args.depot c.args.at)) c.in_err-_read.ensures.answer
     ∙ sym (after_end c.args.depot c.args.at c.args.rest.now (omega arith)))
 
 pub returns : goal.returns
 returns c =
-    ap (λ v. then v (too_late c.args.depot c.args.at)) c.in_ok--read.ensures.answer
+    ap (λ v. then v (too_late c.args.depot c.args.at)) c.in_ok-_read.ensures.answer
     ∙ sym (after_end c.args.depot c.args.at c.args.rest.now (omega arith))

@@ -8,7 +8,7 @@ use Rattle.passes.proofs.passing.advance.Goals as goal
 
 pub returns-in_err-read : goal.returns-in_err-read
 returns-in_err-read g c =
-    let p = err_from_is_err_and c.from-residual.result c.from-residual.ensures.1 in
+    let p = err_from_is_err_and c.from_residual.result c.from_residual.ensures.1 in
     rw (p.1, p.2)
     (record {
       answer =
@@ -19,7 +19,7 @@ returns-in_err-read g c =
 
 pub returns-in_err-state : goal.returns-in_err-state
 returns-in_err-state g c =
-    let p = err_from_is_err_and c.from-residual-in_err-state.result c.from-residual-in_err-state.ensures.1 in
+    let p = err_from_is_err_and c.from_residual-in_err-state.result c.from_residual-in_err-state.ensures.1 in
     rw (p.1, p.2)
     (record {
       answer =

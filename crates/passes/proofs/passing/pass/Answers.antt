@@ -29,7 +29,7 @@ loop-state-preserved g c =
 
 pub returns-in_err-passed : goal.returns-in_err-passed
 returns-in_err-passed g c =
-    let p = err_from_is_err_and c.from-residual.result c.from-residual.ensures.1 in
+    let p = err_from_is_err_and c.from_residual.result c.from_residual.ensures.1 in
     let l = c.loop-state in
     let e =
     stops g.A.Automaton.next g.A.Automaton.ended g.A.Automaton.puts c.args.first c.args.text.now

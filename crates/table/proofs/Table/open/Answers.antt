@@ -8,7 +8,7 @@ use Rattle.table.proofs.Table.open.Goals as goal
 
 pub returns-in_err-check_lists : goal.returns-in_err-check_lists
 returns-in_err-check_lists c =
-    let p = err_from_is_err_and c.from-residual.result c.from-residual.ensures.1 in
+    let p = err_from_is_err_and c.from_residual.result c.from_residual.ensures.1 in
     let l = lists c.args.options.now c.args.starts.now c.args.moves.now in
     let e = c.in_err-check_lists.ensures in
     rw (p.1, p.2)

@@ -8,7 +8,7 @@ use Rattle.table.proofs.Table.run.Goals as goal
 
 pub returns-in_err-span : goal.returns-in_err-span
 returns-in_err-span c =
-    rw c.from-residual.ensures
+    rw c.from_residual.ensures
     (record {
       value = sym (span_missing (lists_of c.args.self.now) c.args.state c.in_err-span.ensures.value c.args.option);
       within = tt;

@@ -8,8 +8,8 @@ use Rattle.table.proofs.checks.check_lists.Goals as goal
 pub bad_sum-requires : goal.bad_sum-requires
 bad_sum-requires c =
     let l = lists c.args.options.now c.args.starts.now c.args.moves.now in
-    let long = all_pass (λ t. t) 0 (lengths_fit l) (sym c.in-default.ensures) in
-    let rise = all_pass (λ t. t) 0 (starts_fit l) (sym c.in-default-bad_starts.ensures) in
+    let long = all_pass (λ t. t) 0 (lengths_fit l) (sym c.in_default.ensures) in
+    let rise = all_pass (λ t. t) 0 (starts_fit l) (sym c.in_default-bad_starts.ensures) in
     record {
       least = omega (arith, (between-says 2 16385 (length c.args.starts.now) long.1.0).0);
       rise = rise.1.0;

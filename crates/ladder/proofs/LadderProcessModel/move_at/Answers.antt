@@ -1,6 +1,6 @@
 use Rattle.std.proofs.Common.{sym, ◌∙◌, arith}
 use Rattle.ladder.proofs.Queries.{good, state_past, move_forty, move_twenty, move_past}
-use Rattle.ladder.proofs.LadderModel.move_at.Goals as goal
+use Rattle.ladder.proofs.LadderProcessModel.move_at.Goals as goal
 
 pub returns-then-state-self : goal.returns-then-state-self
 returns-then-state-self c =
@@ -24,7 +24,7 @@ returns-in-1 c =
     c.outcome-in-1.ensures
     ∙ sym (move_twenty l.tries l.forty l.twenty c.args.state c.args.option c.args.index c.if-state-self.false c.in-1.is)
 
-pub returns-in-default : goal.returns-in-default
-returns-in-default c =
+pub returns-in_default : goal.returns-in_default
+returns-in_default c =
     let l = c.args.self.now in
     sym (move_past l.tries l.forty l.twenty c.args.state c.args.option c.args.index c.if-state-self.false (omega arith))

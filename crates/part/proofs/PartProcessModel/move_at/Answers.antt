@@ -2,7 +2,7 @@ use Rattle.std.proofs.Common.{sym, ◌∙◌, arith}
 use Rattle.process.proofs.Parts.{part_move}
 use Rattle.process.proofs.Queries.{within_more, move_state, move_place}
 use Rattle.part.specs.Marks.{set_of}
-use Rattle.part.proofs.PartModel.move_at.Goals as goal
+use Rattle.part.proofs.PartProcessModel.move_at.Goals as goal
 
 pub sent-requires : goal.sent-requires
 sent-requires g c =

@@ -2,7 +2,7 @@ use Rattle.std.proofs.Common.{sym, ap, ◌∙◌}
 use Rattle.std.specs.Option.{option_map}
 use Rattle.process.specs.declared.place.Span.{Span}
 use Rattle.table.proofs.Found.{good, run_read}
-use Rattle.table.proofs.queries.TableModel.moves.Goals as goal
+use Rattle.table.proofs.queries.TableProcessModel.moves.Goals as goal
 
 pub returns-in-None : goal.returns-in-None
 returns-in-None c =

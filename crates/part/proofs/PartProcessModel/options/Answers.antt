@@ -1,7 +1,7 @@
 use Rattle.std.proofs.Common.{sym, ◌∙◌}
 use Rattle.process.proofs.Parts.{part_options}
 use Rattle.part.specs.Marks.{set_of}
-use Rattle.part.proofs.PartModel.options.Goals as goal
+use Rattle.part.proofs.PartProcessModel.options.Goals as goal
 
 pub returns : goal.returns
 returns g c =

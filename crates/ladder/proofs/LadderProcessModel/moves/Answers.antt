@@ -1,6 +1,6 @@
 use Rattle.std.proofs.Common.{sym, ⊎_elim}
 use Rattle.ladder.proofs.Queries.{moves-tried, moves_past_state, moves_past_option}
-use Rattle.ladder.proofs.LadderModel.moves.Goals as goal
+use Rattle.ladder.proofs.LadderProcessModel.moves.Goals as goal
 
 pub returns-then-option-lt2 : goal.returns-then-option-lt2
 returns-then-option-lt2 c =

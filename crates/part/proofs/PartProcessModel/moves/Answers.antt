@@ -1,7 +1,7 @@
 use Rattle.std.proofs.Common.{sym, ◌∙◌}
 use Rattle.process.proofs.Parts.{part_moves}
 use Rattle.part.specs.Marks.{set_of}
-use Rattle.part.proofs.PartModel.moves.Goals as goal
+use Rattle.part.proofs.PartProcessModel.moves.Goals as goal
 
 pub returns : goal.returns
 returns g c =

@@ -2,7 +2,7 @@ use Rattle.std.proofs.Common.{ltb, Some, sym, ap, ◌∙◌}
 use Rattle.std.proofs.lemmas.Bool.{lt-ltb, le-ltb, cond-true, cond-false}
 use Rattle.table.specs.Runs.{run_move}
 use Rattle.table.proofs.Found.{good, move_found}
-use Rattle.table.proofs.queries.TableModel.move_at.Goals as goal
+use Rattle.table.proofs.queries.TableProcessModel.move_at.Goals as goal
 
 pub returns-in-None : goal.returns-in-None
 returns-in-None c =

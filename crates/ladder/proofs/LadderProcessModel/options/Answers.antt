@@ -1,6 +1,6 @@
 use Rattle.std.proofs.Common.{sym}
 use Rattle.ladder.proofs.Queries.{options_tried, options_past}
-use Rattle.ladder.proofs.LadderModel.options.Goals as goal
+use Rattle.ladder.proofs.LadderProcessModel.options.Goals as goal
 
 pub returns-then-state-self : goal.returns-then-state-self
 returns-then-state-self c =
