@@ -1,5 +1,5 @@
 -- Every ladder that is made is well formed.
-use Rattle.std.specs.Prelude.{◌≡◌, ℕ, zero, suc, ◌+◌, ◌*◌, ◌<◌, ◌≤◌, true, List, [], ◌∷◌, map, length, is_ok, nat_lt, refl}
+use Rattle.std.specs.Prelude.{◌≡◌, ℕ, zero, suc, ◌+◌, ◌*◌, ◌<◌, ◌≤◌, true, [], ◌∷◌, map, length, is_ok, nat_lt, refl}
 use Rattle.std.proofs.Common.{arith}
 use Rattle.std.specs.List.{range_with_len, AllByRecursion as All}
 use Rattle.std.proofs.lemmas.List.FromFn.{length-map-range_with_len}
@@ -11,7 +11,7 @@ use Rattle.process.specs.declared.place.End.TheVariants.{Exit}
 use Rattle.process.specs.declared.place.Place.TheVariants.{State, End as Ends}
 use Rattle.process.specs.Process.{joined, Within, OptionFormed, StateFormed, Formed}
 use Rattle.ladder.specs.declared.chances.Chances.{Chances}
-use Rattle.ladder.specs.Ladder.{spent, fits, after_failure, moves_after, options_after, tried, answer}
+use Rattle.ladder.specs.Ladder.{spent, fits, moves_after, options_after, tried, answer}
 
 pub record Sound (t : ℕ) (forty twenty : Chances) : Type 0 where
   pub least : 1 ≤ t

@@ -1,5 +1,5 @@
 -- The first line of a text, and the rest of its lines.
-use Rattle.std.proofs.Common.{◌≡◌, ℕ, suc, ◌+◌, ◌<◌, true, false, cond, not, eqb, List, [], ◌∷◌, ◌++◌, length, take, drop, sym, refl, ap, ◌∙◌, add-one, one-add, arith}
+use Rattle.std.proofs.Common.{◌≡◌, ℕ, suc, ◌+◌, ◌<◌, true, false, cond, not, eqb, List, [], ◌∷◌, length, take, drop, refl, ap, ◌∙◌, add-one, one-add, arith}
 use Rattle.std.specs.List.{prefix_len, flat_map}
 use Rattle.lines.specs.Lines.{inside, first_line, after_line}
 use Rattle.passes.specs.Texts.{onto, lines}

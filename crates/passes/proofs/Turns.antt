@@ -3,7 +3,7 @@ use Rattle.std.proofs.Common.{◌≡◌, ℕ, ◌+◌, ◌<◌, ◌≤◌, Bool,
 use Rattle.std.proofs.lemmas.Bool.{cases_lt, both_ways, cond-true, cond-false}
 use Rattle.refusal.specs.Tellings.{Telling}
 use Rattle.encoding.specs.Lists.{Lists}
-use Rattle.lines.specs.Lines.{Said, Reading, reading, parsed, first_line, after_line, ruled, read_line}
+use Rattle.lines.specs.Lines.{Said, Reading, parsed, first_line, after_line, ruled, read_line}
 use Rattle.passes.specs.Texts.{lines}
 use Rattle.passes.specs.Passes.{Halt, halt, then, on_said, on_line, advanced, pass, onward, filled}
 use Rattle.passes.proofs.Cuts.{lines_cut}

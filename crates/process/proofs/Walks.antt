@@ -1,6 +1,6 @@
 -- Walks over a process: what its queries answer once they are made total, and one turn of a sum over moves.
-use Rattle.std.proofs.Common.{◌≡◌, ℕ, zero, suc, ◌+◌, ◌*◌, ◌^◌, ◌<◌, ◌≤◌, List, [], ◌∷◌, ◌++◌, length, get_or, take, unwrap_or, sym, refl, ap, ◌∙◌, inl, inr, suc-le-suc, le_refl, add_assoc, zero-add, arith, length-append}
-use Rattle.std.specs.List.{AllByRecursion as All, slice_get}
+use Rattle.std.proofs.Common.{◌≡◌, ℕ, zero, suc, ◌+◌, ◌*◌, ◌^◌, ◌<◌, ◌≤◌, List, [], ◌∷◌, ◌++◌, length, get_or, take, unwrap_or, sym, ap, ◌∙◌, inl, inr, suc-le-suc, le_refl, add_assoc, zero-add, arith, length-append}
+use Rattle.std.specs.List.{AllByRecursion as All}
 use Rattle.std.proofs.lemmas.Nat.{mul-le}
 use Rattle.std.proofs.ByRecursion.{All-get_or, All-append}
 use Rattle.std.proofs.lemmas.List.{take_more, take_all, get_or_append_left, get_or-append-add, get_or_past}

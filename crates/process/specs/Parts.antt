@@ -1,8 +1,7 @@
 -- Moves sent elsewhere, and the kept part of a process: a move leads to the exit if its own state or the state that
 -- it leads to is not kept.
-use Rattle.std.specs.Prelude.{ℕ, suc, Bool, cond, List, [], ◌∷◌, map}
-use Rattle.process.specs.declared.place.End.{End}
-use Rattle.process.specs.declared.place.End.TheVariants.{Target, Exit}
+use Rattle.std.specs.Prelude.{ℕ, suc, Bool, cond, [], ◌∷◌, map}
+use Rattle.process.specs.declared.place.End.TheVariants.{Exit}
 use Rattle.process.specs.declared.place.Place.{Place}
 use Rattle.process.specs.declared.place.Place.TheVariants.{State, End as Ends}
 use Rattle.process.specs.declared.place.Move.{Move}

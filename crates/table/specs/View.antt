@@ -1,5 +1,5 @@
 -- The lists that a table holds, and the built-in depot.
-use Rattle.std.specs.Prelude.{List, [], ◌∷◌}
+use Rattle.std.specs.Prelude.{[], ◌∷◌}
 use Rattle.process.specs.Process.{Process}
 use Rattle.process.specs.Parts.{gone}
 use Rattle.encoding.specs.Lists.{Lists, lists}

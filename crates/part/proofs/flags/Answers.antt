@@ -1,4 +1,4 @@
-use Rattle.std.proofs.Common.{◌≡◌, ◌-◌, eqb, length, get_or, take, ap, ◌∙◌, arith}
+use Rattle.std.proofs.Common.{◌-◌, eqb, get_or, take, ap, ◌∙◌, arith}
 use Rattle.std.proofs.lemmas.List.{take_all, length-set}
 use Rattle.part.specs.Marks.{set_of, marked}
 use Rattle.part.proofs.Filled.{marked_set, flags_more}

@@ -1,4 +1,4 @@
-use Rattle.std.proofs.Common.{sym, ◌∙◌, arith}
+use Rattle.std.proofs.Common.{sym, arith}
 use Rattle.process.proofs.Parts.{part_move}
 use Rattle.process.proofs.Queries.{within_more, move_state, move_place}
 use Rattle.part.specs.Marks.{set_of}

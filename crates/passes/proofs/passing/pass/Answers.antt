@@ -1,5 +1,5 @@
 -- The pass over, refused, or gone on by one line.
-use Rattle.std.proofs.Common.{◌≡◌, true, false, sym, refl, ap, ◌∙◌, arith}
+use Rattle.std.proofs.Common.{sym, refl, ◌∙◌, arith}
 use Rattle.std.proofs.lemmas.Result.{err_from_is_err_and}
 use Rattle.passes.specs.View.{view}
 use Rattle.passes.proofs.Turns.{sets_out, goes_on, stops, has_moved, is_over}

@@ -1,4 +1,4 @@
-use Rattle.std.proofs.Common.{unwrap_or, sym, ap}
+use Rattle.std.proofs.Common.{unwrap_or, ap}
 use Rattle.process.specs.Walks.{no_options}
 use Rattle.process.proofs.Walks.{spanned}
 use Rattle.process.proofs.walk.span_of.Goals as goal

@@ -1,4 +1,4 @@
-use Rattle.std.proofs.Common.{unwrap_or, sym, ap}
+use Rattle.std.proofs.Common.{unwrap_or, ap}
 use Rattle.process.specs.Walks.{no_move}
 use Rattle.process.proofs.Walks.{stepped}
 use Rattle.process.proofs.walk.step_of.Goals as goal

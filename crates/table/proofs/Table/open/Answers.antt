@@ -1,4 +1,4 @@
-use Rattle.std.proofs.Common.{true, false, is_ok, sym, refl, ap, ◌∙◌, arith}
+use Rattle.std.proofs.Common.{true, false, is_ok, refl, ap, arith}
 use Rattle.std.proofs.lemmas.Result.{err_from_is_err_and}
 use Rattle.std.proofs.lemmas.Bool.{false≢true}
 use Rattle.encoding.specs.Lists.{lists}

@@ -1,8 +1,8 @@
-use Rattle.std.proofs.Common.{◌≡◌, ◌+◌, ◌<◌, ◌≤◌, Some, sym, ap, ◌∙◌, arith}
+use Rattle.std.proofs.Common.{◌+◌, ◌<◌, ◌≤◌, Some, sym, ap, ◌∙◌, arith}
 use Rattle.std.proofs.lemmas.Bool.{lt-ltb, le-ltb, cond-true, cond-false}
 use Rattle.process.specs.declared.place.Span.{Span}
 use Rattle.table.specs.View.{lists_of}
-use Rattle.table.specs.Runs.{option_count, span_of, run_of}
+use Rattle.table.specs.Runs.{option_count, run_of}
 use Rattle.table.proofs.Found.{span_missing, span_found}
 use Rattle.table.proofs.Table.run.Goals as goal
 

@@ -1,4 +1,4 @@
-use Rattle.std.proofs.Common.{◌≡◌, ◌<◌, length, get_or, sym, ap, ◌∙◌, arith}
+use Rattle.std.proofs.Common.{sym, ap, ◌∙◌, arith}
 use Rattle.refusal.proofs.Tests.{search_on, search_found, search_ended}
 use Rattle.encoding.specs.Reading.{moves_read}
 use Rattle.encoding.specs.Answers.{move_fits}

@@ -1,4 +1,4 @@
-use Rattle.std.proofs.Common.{◌+◌, ◌*◌, sym, ap, ◌∙◌, arith}
+use Rattle.std.proofs.Common.{◌+◌, ◌*◌, ap, arith}
 use Rattle.table.proofs.Turns.{weights_turn}
 use Rattle.table.proofs.checks.weight_between.Goals as goal
 
