@@ -13,7 +13,7 @@ returns-then-rest-eq0 c =
     ap (λ t. nothing_after c.args.depot c.args.at (lines t))
     (sym (nil_from_length c.args.rest.now c.if-rest-eq0.true))
 
-pub returns-in_err-_read : goal.returns-in-err--read
+pub returns-in_err-_read : goal.returns-in_err-_read
 returns-in_err-_read c =
     let p = err_from_is_err_and c.from_residual.result c.from_residual.ensures.1 in
     rw (p.1, p.2)
