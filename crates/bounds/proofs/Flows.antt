@@ -1,5 +1,5 @@
 -- Hope and risk: one entry for each option.
-use Rattle.std.proofs.Common.{◌≡◌, ℕ, zero, suc, ◌+◌, ◌*◌, ◌^◌, ◌<◌, ◌≤◌, List, [], ◌∷◌, length, get_or, sum, refl, ap, mul-le-mul_left, pow-suc, arith}
+use Rattle.std.proofs.Common.{◌≡◌, ℕ, zero, suc, ◌+◌, ◌*◌, ◌^◌, ◌≤◌, List, [], ◌∷◌, length, get_or, sum, refl, ap, mul-le-mul_left, pow-suc, arith}
 use native.Mathlib.Nat.{le_of_mul-le-mul_left}
 use Rattle.std.specs.List.{AllByRecursion as All}
 use Rattle.std.proofs.lemmas.List.{get_or_past}
@@ -7,7 +7,6 @@ use Rattle.std.proofs.ByRecursion.{All-from_get_or}
 use Rattle.process.specs.declared.place.Move.{Move}
 use Rattle.process.specs.Process.{Process, Formed, joined}
 use Rattle.process.specs.Means.{mean, worth}
-use Rattle.bounds.specs.Orders.{Order, hits}
 use Rattle.bounds.specs.Extremes.{best, worst}
 use Rattle.bounds.specs.Vectors.{total, Options, flow, one_at, weight_to_target, inflow, own, gain, Hopes, Risks}
 use Rattle.bounds.specs.Holds.{HopeHolds, RiskHolds}

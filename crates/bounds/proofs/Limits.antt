@@ -1,9 +1,9 @@
 -- No bound of one register contradicts another: over ever more moves the rest counts for nothing.
-use Rattle.std.proofs.Common.{◌≡◌, ℕ, zero, suc, ◌+◌, ◌*◌, ◌^◌, ◌<◌, ◌≤◌, ◌⊎◌, List, [], ◌∷◌, sym, refl, ap, ◌∙◌, inl, inr, mul-le-mul_left, le_of_mul-le-mul_right, arith}
+use Rattle.std.proofs.Common.{ℕ, suc, ◌+◌, ◌*◌, ◌^◌, ◌≤◌, inl, inr, mul-le-mul_left, le_of_mul-le-mul_right, arith}
 use native.Mathlib.Nat.{one-le-pow}
 use Rattle.std.proofs.lemmas.Bool.{cases_lt}
 use Rattle.process.specs.Process.{Process, Formed}
-use Rattle.bounds.specs.Orders.{Order, hits}
+use Rattle.bounds.specs.Orders.{Order}
 use Rattle.bounds.specs.Holds.{CapHolds, FloorHolds, HopeHolds, RiskHolds}
 use Rattle.bounds.proofs.Orders.{best-reached}
 

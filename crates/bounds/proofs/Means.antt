@@ -1,5 +1,5 @@
 -- The laws of `mean`: what holds of the values at each place holds of their means.
-use Rattle.std.proofs.Common.{◌≡◌, ℕ, zero, suc, ◌+◌, ◌*◌, ◌≤◌, Bool, true, false, cond, ◌⊎◌, List, [], ◌∷◌, sym, refl, ap, ◌∙◌, inl, inr, mul-le-mul_left, arith}
+use Rattle.std.proofs.Common.{◌≡◌, ℕ, ◌+◌, ◌*◌, ◌≤◌, Bool, List, [], ◌∷◌, ap, inl, inr, mul-le-mul_left, arith}
 use Rattle.process.specs.declared.place.Place.{Place}
 use Rattle.process.specs.declared.place.Place.TheVariants.{State, End as Ends}
 use Rattle.std.proofs.lemmas.Bool.{cases_Bool}

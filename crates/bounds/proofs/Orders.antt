@@ -1,5 +1,5 @@
 -- Orders between the worst and the best, and the orders that reach these.
-use Rattle.std.proofs.Common.{◌≡◌, ℕ, zero, suc, ◌+◌, ◌-◌, ◌*◌, ◌^◌, ◌<◌, ◌≤◌, ◌⊎◌, List, [], ◌∷◌, length, get_or, sym, refl, ap, ◌∙◌, subst, inl, inr, mul-le-mul_left, pow-suc, mul-one, arith}
+use Rattle.std.proofs.Common.{◌≡◌, ℕ, zero, suc, ◌+◌, ◌-◌, ◌*◌, ◌^◌, ◌<◌, ◌≤◌, List, [], ◌∷◌, length, get_or, sym, refl, ap, ◌∙◌, subst, inl, inr, mul-le-mul_left, pow-suc, mul-one, arith}
 use mathlib.Core.Path.{fun_ext}
 use native.Mathlib.Nat.{pow-zero}
 use Rattle.std.specs.List.{AllByRecursion as All}

@@ -1,18 +1,16 @@
 -- What a kept part keeps: the vectors whose positive entries it holds.
-use Rattle.std.proofs.Common.{◌≡◌, ℕ, ◌+◌, ◌*◌, ◌<◌, ◌≤◌, Bool, true, false, eqb, List, [], ◌∷◌, map, length, get_or, sym, refl, ◌∙◌, inl, inr, eq-zero-or-pos, arith}
-use Rattle.std.specs.List.{AllByRecursion as All}
+use Rattle.std.proofs.Common.{◌≡◌, ℕ, ◌+◌, ◌*◌, ◌<◌, ◌≤◌, Bool, true, false, eqb, List, [], map, length, get_or, sym, refl, ◌∙◌, inl, inr, eq-zero-or-pos, arith}
 use Rattle.std.proofs.ByRecursion.{All-weaker}
 use Rattle.std.proofs.lemmas.Bool.{cases_Bool, ne_eqb, both_ways, cond-false}
 use Rattle.process.specs.declared.place.Place.{Place}
 use Rattle.process.specs.declared.place.Place.TheVariants.{State, End as Ends}
-use Rattle.process.specs.declared.place.Move.{Move}
 use Rattle.process.specs.Process.{Process}
 use Rattle.process.specs.Parts.{sent, gone, kept_place, kept_move, part_of}
 use Rattle.process.specs.Means.{mean, worth}
 use Rattle.process.proofs.Parts.{part_states}
 use Rattle.bounds.specs.Vectors.{value_at, Floors, Delays, one_at, inflow, own, gain, Hopes}
 use Rattle.bounds.proofs.Means.{mean_le}
-use Rattle.bounds.proofs.States.{FloorsBy, DelaysBy, floors_by, by_floors, delays_by, by_delays}
+use Rattle.bounds.proofs.States.{floors_by, by_floors, delays_by, by_delays}
 use Rattle.bounds.proofs.Resent.{sent-mean, sent-mean_same, resent-own, resent_options, resent-flow}
 
 -- what is positive only where states are kept is 0 elsewhere

@@ -1,8 +1,7 @@
 -- What the inequalities of cap, floor and delay give of any play.
-use Rattle.std.proofs.Common.{◌≡◌, ℕ, zero, suc, ◌+◌, ◌*◌, ◌^◌, ◌≤◌, Bool, List, [], ◌∷◌, sym, refl, ap, ◌∙◌, mul-le-mul_left, pow-suc, arith}
+use Rattle.std.proofs.Common.{ℕ, zero, suc, ◌+◌, ◌*◌, ◌^◌, ◌≤◌, Bool, List, ◌∷◌, mul-le-mul_left, pow-suc, arith}
 use native.Mathlib.Nat.{pow-zero}
 use Rattle.process.specs.declared.place.End.{End}
-use Rattle.process.specs.declared.place.Move.{Move}
 use Rattle.process.specs.Process.{weights}
 use Rattle.process.specs.Means.{mean, paid, valued, worth}
 use Rattle.bounds.specs.Orders.{Play, arrived_to, arrived}

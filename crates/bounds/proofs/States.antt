@@ -1,5 +1,5 @@
 -- Cap, floor and delay: one entry for each state.
-use Rattle.std.proofs.Common.{◌≡◌, ℕ, zero, suc, ◌+◌, ◌*◌, ◌^◌, ◌<◌, ◌≤◌, Bool, ◌⊎◌, List, [], ◌∷◌, length, get_or, sym, refl, ap, ◌∙◌, subst, inl, inr, mul-le-mul_left, mul-one, arith}
+use Rattle.std.proofs.Common.{◌≡◌, ℕ, ◌+◌, ◌*◌, ◌^◌, ◌≤◌, Bool, List, [], ◌∷◌, length, get_or, subst, inl, inr, mul-le-mul_left, mul-one, arith}
 use Rattle.std.specs.List.{AllByRecursion as All}
 use Rattle.std.proofs.lemmas.List.{get_or_past}
 use Rattle.std.proofs.ByRecursion.{All-get_or, All-weaker}
@@ -9,8 +9,7 @@ use Rattle.process.specs.declared.place.End.{End}
 use Rattle.process.specs.declared.place.Move.{Move}
 use Rattle.process.specs.Process.{Process, Formed, weights}
 use Rattle.process.specs.Means.{mean, is_target, paid, valued, worth}
-use Rattle.bounds.specs.Orders.{Play, arrived_to, arrived, Order, played, hits}
-use Rattle.bounds.specs.Extremes.{greatest, least}
+use Rattle.bounds.specs.Orders.{Play, arrived_to, arrived, played}
 use Rattle.bounds.specs.Vectors.{value_at, weight_to_target, carried, Options, CapAt, FloorAt, DelayAt, Caps, Floors, Delays}
 use Rattle.bounds.specs.Holds.{CapHolds, FloorHolds}
 use Rattle.bounds.proofs.Means.{mean_eq, mean_all}

@@ -1,5 +1,5 @@
 -- What is refused after the end of a depot text.
-use Rattle.std.proofs.Common.{◌≡◌, ℕ, ◌<◌, List, [], ◌∷◌, length, Some, None, Ok, Err, Option, Result, sym, refl, ap, ◌∙◌, arith}
+use Rattle.std.proofs.Common.{◌≡◌, ℕ, ◌<◌, List, [], ◌∷◌, length, Some, None, Err, Option, Result, refl, arith}
 use Rattle.refusal.specs.Tellings.{Telling, at_text}
 use Rattle.lines.specs.Lines.{Said, Reading, first_line, after_line, parsed, ruled, read_line}
 use Rattle.passes.specs.Texts.{lines}

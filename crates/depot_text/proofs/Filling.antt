@@ -1,7 +1,7 @@
 -- Lists filled from their start on, and the starts of lists one after another.
-use Rattle.std.proofs.Common.{◌≡◌, ℕ, suc, ◌+◌, ◌<◌, List, [], ◌∷◌, ◌++◌, map, length, drop, set, sym, refl, ap, ◌∙◌, append_assoc, arith, length-append}
+use Rattle.std.proofs.Common.{◌≡◌, ℕ, suc, ◌+◌, List, [], ◌∷◌, ◌++◌, map, length, sym, refl, ap, ◌∙◌, arith, length-append}
 use lib.ListN.{length-map}
-use Rattle.std.proofs.lemmas.List.{drop_more, set_at, length_push, map-append}
+use Rattle.std.proofs.lemmas.List.{map-append}
 use Rattle.process.specs.declared.place.Move.{Move}
 use Rattle.process.specs.Process.{joined}
 use Rattle.encoding.specs.Writing.{starts_from, moves_written}

@@ -9,7 +9,7 @@ use Rattle.encoding.specs.Lists.{Lists, lists}
 use Rattle.encoding.specs.Writing.{place_number}
 use Rattle.lines.specs.Lines.{Said, parsed}
 use Rattle.passes.specs.Texts.{lines}
-use Rattle.passes.specs.Passes.{Halt, then, on_said, pass, filled}
+use Rattle.passes.specs.Passes.{then, on_said, pass, filled}
 use Rattle.depot_text.specs.declared.item.Spelled.{Spelled}
 use Rattle.depot_text.specs.declared.item.Spelled.TheVariants as spelled
 use Rattle.depot_text.specs.declared.progress.Phase.{Phase}

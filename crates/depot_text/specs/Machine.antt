@@ -1,5 +1,5 @@
 -- Which lines may follow each other in a depot text, and what each does.
-use Rattle.std.specs.Prelude.{ℕ, ◌+◌, ◌-◌, Bool, true, false, cond, not, ◌&&◌, ◌||◌, Some, None, Ok, Err, Option, Result, ◌==◌, nat_le, nat_lt}
+use Rattle.std.specs.Prelude.{ℕ, ◌+◌, ◌-◌, Bool, true, false, cond, ◌&&◌, ◌||◌, Some, None, Ok, Err, Option, Result, ◌==◌, nat_le, nat_lt}
 use Rattle.refusal.specs.Tellings.{Telling, at_text}
 use Rattle.refusal.specs.Tests.{between}
 use Rattle.passes.specs.Passes.{demand}

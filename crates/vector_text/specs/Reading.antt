@@ -1,5 +1,5 @@
 -- What reading a vector answers, its first line having a number, and what it leaves in the lent list.
-use Rattle.std.specs.Prelude.{ℕ, cond, List, length, is_ok, Ok, Err, Result}
+use Rattle.std.specs.Prelude.{ℕ, cond, List, length, is_ok, Ok, Result}
 use Rattle.refusal.specs.Tellings.{Telling}
 use Rattle.encoding.specs.Lists.{Lists}
 use Rattle.passes.specs.Texts.{lines}

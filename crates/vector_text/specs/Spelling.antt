@@ -1,8 +1,8 @@
 -- Vector text in terms of vectors: how a vector is spelled, and that exactly the spelled vectors are read.
-use Rattle.std.specs.Prelude.{◌≡◌, ℕ, ◌+◌, ◌^◌, ◌<◌, ◌≤◌, false, List, [], ◌∷◌, ◌++◌, map, length, is_ok, Ok, codes, decimal, Result}
+use Rattle.std.specs.Prelude.{◌≡◌, ℕ, ◌+◌, ◌^◌, ◌<◌, ◌≤◌, false, List, ◌++◌, length, is_ok, Ok, codes, decimal, Result}
 use Rattle.std.specs.List.{flat_map as written_All, AllByRecursion as All}
 use Rattle.refusal.specs.Tellings.{Telling}
-use Rattle.lines.specs.Lines.{Said, says_word, says_number}
+use Rattle.lines.specs.Lines.{says_word, says_number}
 use Rattle.lines.specs.Writing.{written}
 use Rattle.passes.specs.Texts.{lines}
 use Rattle.passes.specs.Over.{over}

@@ -1,5 +1,5 @@
 -- The line that ends the depot is found, is not there, or is looked for further on.
-use Rattle.std.proofs.Common.{◌≡◌, ℕ, ◌+◌, ◌-◌, List, length, sym, ap, ◌∙◌, subst, arith, length-drop}
+use Rattle.std.proofs.Common.{ℕ, ◌+◌, ◌-◌, List, length, sym, ap, ◌∙◌, subst, arith, length-drop}
 use Rattle.depot_text.specs.Splitting.{ends_depot}
 use Rattle.depot_text.proofs.Parting.{Parting, parting_none, parting_more, part_found, part_none}
 use Rattle.depot_text.proofs.splitting.split_input.Goals as goal

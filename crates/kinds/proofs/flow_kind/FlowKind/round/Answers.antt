@@ -1,4 +1,4 @@
-use Rattle.std.proofs.Common.{ℕ, sym, ap, ◌∙◌, subst}
+use Rattle.std.proofs.Common.{sym, ap, ◌∙◌, subst}
 use Rattle.kinds.specs.declared.flow_kind.FlowKind.TheVariants.{Risk}
 use Rattle.kinds.specs.FlowKinds.{rounded_up, Rounds}
 use Rattle.kinds.proofs.Rounding.{rounds}
