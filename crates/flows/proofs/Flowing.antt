@@ -1,12 +1,12 @@
 -- Sums over options: one turn of a loop, and bounds.
-use Rattle.std.proofs.Common.{◌≡◌, ℕ, zero, suc, ◌+◌, ◌*◌, ◌^◌, ◌<◌, ◌≤◌, Bool, true, false, cond, eqb, List, [], ◌∷◌, length, get_or, take, drop, Some, None, sum, sym, refl, ap, ◌∙◌, inl, inr, suc-le-suc, le_refl, add_assoc, mul_assoc, mul-le-mul_left, zero-add, mul-one, mul-add, add-one, arith, length-drop}
+use Rattle.std.proofs.Common.{◌≡◌, ℕ, zero, suc, ◌+◌, ◌*◌, ◌^◌, ◌<◌, ◌≤◌, Bool, true, false, eqb, List, [], ◌∷◌, length, get_or, take, drop, Some, None, sum, sym, refl, ap, ◌∙◌, suc-le-suc, le_refl, add_assoc, mul_assoc, mul-le-mul_left, zero-add, mul-one, mul-add, add-one, arith, length-drop}
 use Rattle.std.specs.List.{range_with_len, AllByRecursion as All}
 use Rattle.std.proofs.lemmas.List.{take_all, get_or-drop}
 use Rattle.std.proofs.lemmas.List.Sums.{sum_by_more}
 use Rattle.std.proofs.lemmas.List.FromFn.{length-range_with_len, get_or-range_with_len, length-map-range_with_len, get_or-map-range_with_len}
 use Rattle.std.proofs.lemmas.Nat.{mul-le}
 use Rattle.std.proofs.ByRecursion.{All-weaker, All-from_get_or}
-use Rattle.std.proofs.lemmas.Bool.{cases_Bool, cond_both}
+use Rattle.std.proofs.lemmas.Bool.{cond_both}
 use Rattle.refusal.specs.Tests.{first_bad}
 use Rattle.refusal.proofs.Tests.{Searched, search_on, search_found, search_ended}
 use Rattle.process.specs.declared.place.Place.{Place}

@@ -1,5 +1,5 @@
 -- The lists that loading leaves begin with the encoding of the depot, so that the table takes them.
-use Rattle.std.proofs.Common.{◌≡◌, ℕ, ◌+◌, ◌-◌, ◌*◌, Bool, true, false, List, ◌++◌, map, length, take, is_ok, Ok, Err, Result, sym, refl, ap, ◌∙◌, arith}
+use Rattle.std.proofs.Common.{◌≡◌, ℕ, ◌+◌, ◌-◌, ◌*◌, true, List, map, length, take, is_ok, Ok, Err, Result, refl, ap, ◌∙◌, arith}
 use Rattle.std.proofs.lemmas.List.{take_at, length-map}
 use Rattle.std.proofs.lemmas.Bool.{true≢false, false≢true}
 use Rattle.refusal.specs.declared.reason.Refusal.{Refusal}
@@ -7,11 +7,11 @@ use Rattle.refusal.specs.Tellings.{Telling, told}
 use Rattle.process.specs.declared.size.Size.{Size}
 use Rattle.process.specs.Process.{Process, joined}
 use Rattle.encoding.specs.Lists.{Lists, lists}
-use Rattle.encoding.specs.Writing.{starts_from, moves_written, encoding, Spells, TakenAsSpelled}
+use Rattle.encoding.specs.Writing.{starts_from, moves_written, encoding, TakenAsSpelled}
 use Rattle.encoding.proofs.Pieces.{length-starts}
 use Rattle.encoding.proofs.Moves.{length-moves_written}
 use Rattle.passes.specs.Over.{over}
-use Rattle.depot_text.specs.Spelling.{Tree, move_of, process_of, render, size_of, Fits, spread, LoadedAsSpelled}
+use Rattle.depot_text.specs.Spelling.{Tree, move_of, process_of, size_of, spread, LoadedAsSpelled}
 use Rattle.depot_text.proofs.Complete.{length_options, length-moves}
 use Rattle.opened.specs.Opening.{OpenedAsSpelled}
 

@@ -1,9 +1,9 @@
 -- A verdict is acceptance exactly where the inequalities hold, its bound is the first entry, and what it names is the
 -- first that fails.
-use Rattle.std.proofs.Common.{◌≡◌, ℕ, zero, suc, ◌+◌, ◌*◌, ◌<◌, ◌≤◌, Bool, true, false, eqb, leb, List, [], ◌∷◌, length, get_or, take, is_ok, Some, None, Ok, Err, Decides, Option, Result, sym, refl, ap, ◌∙◌, subst, inl, inr, suc-le-suc, add-zero, zero-add, arith, length-append}
+use Rattle.std.proofs.Common.{◌≡◌, ℕ, zero, suc, ◌+◌, ◌*◌, ◌<◌, ◌≤◌, Bool, true, eqb, leb, List, [], ◌∷◌, length, get_or, take, is_ok, Some, None, Ok, Err, Decides, Option, Result, sym, refl, ap, ◌∙◌, subst, suc-le-suc, add-zero, zero-add, arith, length-append}
 use Rattle.std.specs.List.{AllByRecursion as All}
 use Rattle.std.proofs.ByRecursion.{All-get_or}
-use Rattle.std.proofs.lemmas.Bool.{cases_Bool, leb-true, le-leb, eqb-true, eq-eqb}
+use Rattle.std.proofs.lemmas.Bool.{leb-true, le-leb, eqb-true, eq-eqb}
 use Rattle.refusal.specs.declared.reason.Refusal.{Refusal}
 use Rattle.refusal.specs.Tellings.{Telling, at_vector, told}
 use Rattle.refusal.specs.Tests.{first_bad, first_false, or_else, FirstFailure, unless}
@@ -12,7 +12,7 @@ use Rattle.process.specs.declared.place.Move.{Move}
 use Rattle.process.specs.Process.{Process, joined}
 use Rattle.process.specs.Queries.{moves_of}
 use Rattle.process.proofs.Walks.{span_last}
-use Rattle.bounds.specs.Vectors.{value_at, weight_to_target, carried, Options}
+use Rattle.bounds.specs.Vectors.{value_at, weight_to_target, carried}
 use Rattle.kinds.specs.declared.state_kind.StateKind.{StateKind}
 use Rattle.kinds.specs.declared.state_kind.StateKind.TheVariants.{Cap, Floor, Delay}
 use Rattle.kinds.specs.StateKinds.{limit_of, holds_at, FairAt}

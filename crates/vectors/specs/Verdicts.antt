@@ -1,5 +1,5 @@
 -- What the check of a vector with one entry for each state answers, and what it leaves in the marks.
-use Rattle.std.specs.Prelude.{ℕ, ◌+◌, Bool, cond, List, [], ◌∷◌, map, length, Some, None, Ok, Err, Option, Result, ◌==◌, nat_le, nat_lt}
+use Rattle.std.specs.Prelude.{ℕ, ◌+◌, Bool, cond, List, [], ◌∷◌, map, length, None, Ok, Err, Option, Result, ◌==◌, nat_le, nat_lt}
 use Rattle.refusal.specs.Tellings.{Telling, at_vector}
 use Rattle.refusal.specs.Tests.{first_bad, first_false, or_else, unless}
 use Rattle.process.specs.declared.place.Move.{Move}

@@ -1,4 +1,4 @@
-use Rattle.std.proofs.Common.{◌≡◌, ℕ, ◌+◌, ◌*◌, ◌<◌, [], length, get_or, ap, ◌∙◌, add-zero, arith}
+use Rattle.std.proofs.Common.{◌≡◌, ◌<◌, [], length, get_or, ◌∙◌, add-zero, arith}
 use Rattle.process.specs.Means.{worth}
 use Rattle.bounds.specs.Vectors.{one_at, weight_to, weight_to_target}
 use Rattle.flows.proofs.Flowing.{option_more, option_room, state_more, hit_le, target_le}
