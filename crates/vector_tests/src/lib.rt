@@ -2,7 +2,7 @@
 
 // Tests of the five vector checks and of look-ahead. Expected values are worked out by hand from the inequalities.
 #[cfg(test)]
-mod flows;
+mod flow_checks;
 #[cfg(test)]
 mod ladders;
 #[cfg(test)]
