@@ -1,5 +1,6 @@
 -- A call of the code as what it gives, an answer as it is told, and a register of either kind as its calls see it.
 use Rattle.std.specs.Prelude.{vec_items}
+use Rattle.process.specs.declared.Model.{Ghosts}
 use Rattle.refusal.specs.Tellings.{tell}
 use Rattle.runs.specs.Acts.{cap, delay, floor, hope, risk, Act, takes, asks_least, asks_most, Reply, accepted, refused, said, skipped, Standing, opened, settled_at}
 use Rattle.replay.specs.declared.call.Call.{Call}
@@ -24,10 +25,10 @@ reply_of (answer.Refused e) = refused (tell e)
 reply_of (answer.Said v) = said v
 reply_of answer.Skipped = skipped
 
-abbrev pub standing : {X : Type 0} → Stage X → Standing
+abbrev pub standing : {X : Type 0} {G : Ghosts X} → Stage X G → Standing
 standing (Opened r) = opened r.sheet
 standing (Delayed r) = settled_at r.sheet
 
-abbrev pub model_of : {X : Type 0} → Stage X → X
+abbrev pub model_of : {X : Type 0} {G : Ghosts X} → Stage X G → X
 model_of (Opened r) = r.model
 model_of (Delayed r) = r.model
