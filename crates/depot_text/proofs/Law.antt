@@ -1,6 +1,6 @@
 -- A text is loaded exactly when it spells a depot that fits.
 use Rattle.std.proofs.Common.{◌≡◌, ℕ, ◌≤◌, List, is_ok, Ok, Err, Result, sym, refl, ap, ◌∙◌, arith}
-use Rattle.std.specs.List.{flat_map as written_All}
+use Rattle.std.specs.List.{flat_map as written_all}
 use Rattle.std.proofs.lemmas.Bool.{cond-true, cond-false}
 use Rattle.refusal.specs.Tellings.{Telling}
 use Rattle.process.specs.declared.size.Size.{Size}
@@ -32,7 +32,7 @@ is_sized (Err f) = refl
 
 -- the text of items
 abbrev text_of : List Item → List ℕ
-text_of is = written_All (λ i. written (says i)) is
+text_of is = written_all (λ i. written (says i)) is
 
 module _ (d first : ℕ) (t : List ℕ) (l : Lists) where
   spells : 1 ≤ d → d ≤ 65536 → (n : Size) → answer d first t l ≡ Ok n → (tree : Tree) × Fits d l tree × (t ≡ render tree)

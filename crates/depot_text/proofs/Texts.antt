@@ -1,6 +1,6 @@
 -- An accepted text is the lines of its items, one after the other, and those lines are read as their items.
 use Rattle.std.proofs.Common.{◌≡◌, ℕ, ◌+◌, ◌^◌, ◌<◌, true, ◌&&◌, List, [], ◌∷◌, ◌++◌, map, is_ok, Some, None, Ok, Err, codes, decimal, Option, Result, sym, refl, ap, ◌∙◌, subst, inl, inr, arith, length-append}
-use Rattle.std.specs.List.{flat_map as written_All, AllByRecursion as All}
+use Rattle.std.specs.List.{flat_map as written_all, AllByRecursion as All}
 use Rattle.std.specs.Str.{bytes_eq}
 use Rattle.std.proofs.lemmas.Slice.Eq.{bytes_eq-Decides}
 use Rattle.std.proofs.lemmas.Bool.{cond-true, cond-false, cond_both, cases_Bool, and_parts, eqb-true, false≢true}
@@ -95,10 +95,10 @@ said_item (says_number key v n) h =
 abbrev pub line : Item → List ℕ
 line i = written (says i)
 
-pub lines_items : (is : List Item) → All ProperItem is → lines (written_All (λ i. written (says i)) is) ≡ map line is
+pub lines_items : (is : List Item) → All ProperItem is → lines (written_all (λ i. written (says i)) is) ≡ map line is
 lines_items [] h = refl
 lines_items (i ∷ is) h =
-    let rest = written_All (λ i. written (says i)) is in
+    let rest = written_all (λ i. written (says i)) is in
     let proper = says-proper i h.0 in
     let some = written-some (says i) in
     let long = length-append (line i) rest in
@@ -106,12 +106,12 @@ lines_items (i ∷ is) h =
     ∙ (λ k. first-written (says i) rest proper k ∷ lines (after-written (says i) rest proper k))
     ∙ ap (λ ls. line i ∷ ls) (lines_items is h.1)
 
-joined-map : (is : List Item) → written_All (λ (l : List ℕ). l) (map line is) ≡ written_All (λ i. written (says i)) is
+joined-map : (is : List Item) → written_all (λ (l : List ℕ). l) (map line is) ≡ written_all (λ i. written (says i)) is
 joined-map [] = refl
 joined-map (i ∷ is) = ap (λ t. line i ++ t) (joined-map is)
 
-text_of_items : (t : List ℕ) (is : List Item) → lines t ≡ map line is → t ≡ written_All (λ i. written (says i)) is
-text_of_items t is e = sym (lines-whole t) ∙ ap (written_All (λ l. l)) e ∙ joined-map is
+text_of_items : (t : List ℕ) (is : List Item) → lines t ≡ map line is → t ≡ written_all (λ i. written (says i)) is
+text_of_items t is e = sym (lines-whole t) ∙ ap (written_all (λ l. l)) e ∙ joined-map is
 
 -- after the end every item is refused
 over : (r : Rules) (s : Progress) (at : ℕ) (i : Item) → phase_number s.phase ≡ 7 → on_item r s at i ≡ Err (at_text 12 at)
@@ -246,7 +246,7 @@ module _ (r : Rules) where
 
 module _ (d first : ℕ) where
   pub items_of_read : (t : List ℕ) (l : Lists) (m : Depot) → read d first t l ≡ Ok m
-      → (is : List Item) × (t ≡ written_All (λ i. written (says i)) is)
+      → (is : List Item) × (t ≡ written_all (λ i. written (says i)) is)
       × (run (rules_of d l) start first is ≡ Ok m.progress) × All ProperItem is
       × (m ≡ depot (rules_of d l) m.progress)
   items_of_read t l m e =
@@ -258,14 +258,14 @@ module _ (d first : ℕ) where
 
   pub read_of_items : (l : Lists) (is : List Item) (y : Progress) → All ProperItem is
       → run (rules_of d l) start first is ≡ Ok y
-      → read d first (written_All (λ i. written (says i)) is) l ≡ Ok (depot (rules_of d l) y)
+      → read d first (written_all (λ i. written (says i)) is) l ≡ Ok (depot (rules_of d l) y)
   read_of_items l is y h e =
       let r = rules_of d l in
       ap (reads_on (depot r start) first) (lines_items is h) ∙ reads_items r start first is h ∙ ap (onto r) e
 
   pub filled_of_items : (l : Lists) (is : List Item) (y : Progress) → All ProperItem is
       → run (rules_of d l) start first is ≡ Ok y
-      → filled next ended puts (beginning d l) first (lines (written_All (λ i. written (says i)) is)) l
+      → filled next ended puts (beginning d l) first (lines (written_all (λ i. written (says i)) is)) l
       ≡ wrote (rules_of d l) start first l is
   filled_of_items l is y h e =
       let r = rules_of d l in

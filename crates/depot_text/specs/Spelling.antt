@@ -1,6 +1,6 @@
 -- Depot text in terms of depots: how a depot is spelled, and that exactly the spelled depots are loaded.
 use Rattle.std.specs.Prelude.{◌≡◌, ℕ, ◌+◌, ◌*◌, ◌≤◌, false, List, [], ◌∷◌, ◌++◌, map, length, is_ok, Ok, codes, decimal, Result}
-use Rattle.std.specs.List.{flat_map as written_All}
+use Rattle.std.specs.List.{flat_map as written_all}
 use Rattle.refusal.specs.Tellings.{Telling}
 use Rattle.process.specs.declared.place.Move.{Move}
 use Rattle.process.specs.declared.size.Size.{Size}
@@ -61,7 +61,7 @@ abbrev pub depot_items : Tree → List Item
 depot_items t = item.Kind ∷ (item.States (length t) ∷ (state_items 0 t ++ (item.End ∷ [])))
 
 abbrev pub render : Tree → List ℕ
-render t = written_All (λ i. written (says i)) (depot_items t)
+render t = written_all (λ i. written (says i)) (depot_items t)
 
 abbrev pub size_of : Tree → Size
 size_of t = record { states = length t; options = length (joined t); moves = length (joined (joined t)) }

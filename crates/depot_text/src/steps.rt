@@ -3,7 +3,7 @@ ghost use Rattle.std.specs.Prelude.{◌≡◌, if◌then◌else◌, Ok, Err};
 ghost use Rattle.refusal.specs.Tellings.{told, at_text};
 ghost use Rattle.lines.specs.View.{said_by};
 ghost use Rattle.depot_text.specs.Items.{word_item, number_item, item_of};
-ghost use Rattle.depot_text.specs.Machine.{at_phase, closed, exists as exists-in, lacking, on_kind, on_states, on_state, on_choice, on_to, on_weight, on_end, on_item};
+ghost use Rattle.depot_text.specs.Machine.{at_phase, closed, exists as exists_in, lacking, on_kind, on_states, on_state, on_choice, on_to, on_weight, on_end, on_item};
 
 use crate::item::{Item, Spelled};
 use crate::progress::{Phase, Progress, Rules};
@@ -84,7 +84,7 @@ fn check_sum(s: &Progress, at: usize) -> Result<(), Refusal>
 }
 
 fn exists(states: u32, place: Spelled) -> bool
-    ensures { result ≡ exists-in states place }
+    ensures { result ≡ exists_in states place }
 {
     match place {
         Spelled::State(state) => state < states,

@@ -1,11 +1,10 @@
 -- Vectors read one after another.
-use Rattle.std.proofs.Common.{◌≡◌, ℕ, ◌+◌, ◌≤◌, List, [], ◌∷◌, ◌++◌, map, length, take, drop, Some, None, Ok, Err, Option, Result, sym, refl, ap, ◌∙◌, subst, ap₂, append_assoc, append-nil, arith}
+use Rattle.std.proofs.Common.{◌≡◌, ℕ, ◌+◌, ◌≤◌, List, [], ◌∷◌, ◌++◌, map, length, take, drop, Some, None, Ok, Err, Option, Result, sym, refl, ap, ◌∙◌, ap₂, append_assoc, append-nil, arith}
 use Rattle.std.specs.List.{flat_map}
 use Rattle.std.proofs.lemmas.List.{map_push, take_at}
 use Rattle.refusal.specs.Tellings.{Telling}
 use Rattle.encoding.specs.Lists.{lists as three}
 use Rattle.passes.specs.Texts.{lines}
-use Rattle.passes.specs.Over.{over}
 use Rattle.passes.proofs.Cuts.{lines-whole}
 use Rattle.vector_text.specs.declared.format.Kind.{Kind}
 use Rattle.vector_text.specs.Reading.{Header, answer}
@@ -65,7 +64,7 @@ taken rest at old new kind count next later law =
       spelled = r.5 ∙ ap₂ (λ x t. render x es ++ t) (sym ek) (sym el);
       counted = ec;
       fits = omega (arith, r.4);
-      held = ap (take count) s.1 ∙ take_at es (drop (length es) old) count ec;
+      held = ap (take count) s.1 ∙ take_at es (drop (length es) old) count (sym ec);
       line = ap (λ x. x.at) e;
     }
   where

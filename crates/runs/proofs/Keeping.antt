@@ -185,6 +185,6 @@ module _ (d : ℕ) (p : Process) where
         same_marks =
             λ fresh tally l k. rw (passes (length fresh) (length tally) l k)
             (simp (part_states kept p, part_own Q d p kept y positive) (sym marks));
-        same-bound-and-visits =
+        same_bound_and_visits =
             passes (length p) (length p) refl refl ∙ rw (part_gain Q d p kept y positive) (sym a.3);
       }

@@ -55,7 +55,7 @@ pub record HopeAgain (d : ℕ) (p : Process) (kept : ℕ → Bool) (y m t marks 
       → replies d (part_of kept p) (takes (hope y fresh tally) ∷ []) first_standing ≡ accepted ∷ []
   pub same_marks : (fresh tally : List ℕ) → length fresh ≡ length p → length tally ≡ length p
       → marks_of (left d (part_of kept p) (takes (hope y fresh tally)) first_standing) ≡ marks
-  pub same-bound-and-visits :
+  pub same_bound_and_visits :
       hope_verdict d (part_of kept p) y (length p) (length p) ≡ hope_verdict d p y (length m) (length t)
 
 -- calls as they were given and as they are left, the answers and the sheet at the end, over a process p at scale d

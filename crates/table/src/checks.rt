@@ -5,7 +5,7 @@ ghost use Rattle.refusal.specs.Tests.{first_bad, first_false};
 ghost use Rattle.process.specs.Process.{weights};
 ghost use Rattle.encoding.specs.Lists.{lists};
 ghost use Rattle.encoding.specs.Reading.{moves_read, pieces};
-ghost use Rattle.encoding.specs.Answers.{answer, lengths_fit, starts as starts-rise, starts_fit, within, move_fits, sum_fits};
+ghost use Rattle.encoding.specs.Answers.{answer, lengths_fit, starts as starts_rise, starts_fit, within, move_fits, sum_fits};
 
 use crate::reading::read_move;
 use process::{Move, Place};
@@ -64,7 +64,7 @@ fn bad_starts(options: &[u32], starts: &[u32], moves: &[u32]) -> Option<usize>
 
 // begins at 0, rises strictly and ends at `end`
 fn rising(list: &[u32], end: usize) -> bool
-    ensures { result ≡ starts-rise list.now end }
+    ensures { result ≡ starts_rise list.now end }
 {
     if list.len() == 0 || list[0] != 0 {
         return false;
@@ -108,7 +108,7 @@ fn exists(states: usize, place: Place) -> bool
 
 fn bad_sum(scale: u32, starts: &[u32], moves: &[u32]) -> Option<usize>
     requires least { 1 ≤ length starts.now }
-    requires rise { starts-rise starts.now (length moves.now / 2) ≡ true }
+    requires rise { starts_rise starts.now (length moves.now / 2) ≡ true }
     requires most { length moves.now ≤ 131072 }
     ensures { result ≡ first_bad (sum_fits scale) 0 (pieces starts.now (moves_read moves.now)) }
 {

@@ -2,7 +2,7 @@ ghost use Rattle.std.specs.Prelude.{◌≡◌, true, is_ok, if◌then◌else◌}
 ghost use Rattle.refusal.specs.Tellings.{told};
 ghost use Rattle.encoding.specs.Lists.{lists};
 ghost use Rattle.encoding.specs.Reading.{process_read};
-ghost use Rattle.encoding.specs.Writing.{encoding as encoding-of, TakenAsSpelled};
+ghost use Rattle.encoding.specs.Writing.{encoding as encoding_of, TakenAsSpelled};
 ghost use Rattle.encoding.specs.Answers.{answer};
 ghost use Rattle.table.specs.View.{lists_of, empty_depot};
 
@@ -13,7 +13,7 @@ use refusal::Refusal;
 impl<'a> Table<'a> {
     // The built-in depot: one state, whose one option leads to the exit.
     pub fn empty() -> Self
-        ensures lists { lists_of result ≡ encoding-of empty_depot }
+        ensures lists { lists_of result ≡ encoding_of empty_depot }
         ensures meaning { process_read (lists_of result) ≡ empty_depot }
     {
         Table {

@@ -1,6 +1,6 @@
 -- A vector is read exactly when the text begins with one that the list can hold.
 use Rattle.std.proofs.Common.{◌≡◌, ℕ, ◌+◌, ◌^◌, ◌<◌, ◌≤◌, List, [], ◌++◌, length, drop, is_ok, Ok, Err, Result, sym, refl, ap, ◌∙◌}
-use Rattle.std.specs.List.{flat_map as written_All, AllByRecursion as All}
+use Rattle.std.specs.List.{flat_map as written_all, AllByRecursion as All}
 use Rattle.std.proofs.lemmas.Bool.{cond-true, cond-false, false≢true}
 use Rattle.refusal.specs.Tellings.{Telling}
 use Rattle.encoding.specs.Lists.{Lists, lists}
@@ -39,10 +39,10 @@ module _ (first : ℕ) (t old : List ℕ) where
       let q = vector_taken (length old) first (lines t) h.0 h.1 in (
         q.0,
         q.1,
-        written_All (λ l. l) q.2,
+        written_all (λ l. l) q.2,
         q.3,
         q.4,
-        sym (lines-whole t) ∙ ap (written_All (λ l. l)) q.5 ∙ whole_vector q.0 q.1 q.2,
+        sym (lines-whole t) ∙ ap (written_all (λ l. l)) q.5 ∙ whole_vector q.0 q.1 q.2,
       )
 
   module _ (k : Kind) (es rest : List ℕ) (h : All (λ n. n < 2 ^ 32) es) (fits : length es ≤ length old)

@@ -1,6 +1,6 @@
 -- The items of a vector text and their lines: what each says, and the text cut into them.
 use Rattle.std.proofs.Common.{◌≡◌, ℕ, ◌^◌, ◌<◌, true, List, [], ◌∷◌, ◌++◌, map, codes, decimal, sym, refl, ap, ◌∙◌, subst, append_assoc, arith, length-append}
-use Rattle.std.specs.List.{flat_map as written_All, AllByRecursion as All}
+use Rattle.std.specs.List.{flat_map as written_all, AllByRecursion as All}
 use Rattle.std.specs.Str.{bytes_eq}
 use Rattle.std.proofs.lemmas.Slice.Eq.{bytes_eq-Decides}
 use Rattle.std.proofs.lemmas.Bool.{cond_both, and_parts}
@@ -108,11 +108,11 @@ lines_line i rest h =
     ∙ (λ k. first-written (says i) rest proper k ∷ lines (after-written (says i) rest proper k))
 
 lines-entries : (es rest : List ℕ) → All (λ n. n < 2 ^ 32) es
-    → lines (written_All entry_line es ++ rest) ≡ map entry_line es ++ lines rest
+    → lines (written_all entry_line es ++ rest) ≡ map entry_line es ++ lines rest
 lines-entries [] rest h = refl
 lines-entries (e ∷ es) rest h =
-    ap lines (append_assoc (entry_line e) (written_All entry_line es) rest)
-    ∙ lines_line (item.Entry e) (written_All entry_line es ++ rest) h.0
+    ap lines (append_assoc (entry_line e) (written_all entry_line es) rest)
+    ∙ lines_line (item.Entry e) (written_all entry_line es ++ rest) h.0
     ∙ ap (λ ls. entry_line e ∷ ls) (lines-entries es rest h.1)
 
 -- a vector's lines
@@ -120,29 +120,29 @@ abbrev pub vector_lines : Kind → List ℕ → List (List ℕ) → List (List �
 vector_lines k es rest = line (item.Vector k) ∷ (map entry_line es ++ (line item.End ∷ rest))
 
 render-rest : (k : Kind) (es rest : List ℕ)
-    → render k es ++ rest ≡ line (item.Vector k) ++ (written_All entry_line es ++ (line item.End ++ rest))
+    → render k es ++ rest ≡ line (item.Vector k) ++ (written_all entry_line es ++ (line item.End ++ rest))
 render-rest k es rest =
-    append_assoc (line (item.Vector k)) (written_All entry_line es ++ line item.End) rest
-    ∙ ap (λ t. line (item.Vector k) ++ t) (append_assoc (written_All entry_line es) (line item.End) rest)
+    append_assoc (line (item.Vector k)) (written_all entry_line es ++ line item.End) rest
+    ∙ ap (λ t. line (item.Vector k) ++ t) (append_assoc (written_all entry_line es) (line item.End) rest)
 
 pub lines_vector : (k : Kind) (es rest : List ℕ) → All (λ n. n < 2 ^ 32) es
     → lines (render k es ++ rest) ≡ vector_lines k es (lines rest)
 lines_vector k es rest h =
     ap lines (render-rest k es rest)
-    ∙ lines_line (item.Vector k) (written_All entry_line es ++ (line item.End ++ rest)) tt
+    ∙ lines_line (item.Vector k) (written_all entry_line es ++ (line item.End ++ rest)) tt
     ∙ ap (λ ls. line (item.Vector k) ∷ ls) (lines-entries es (line item.End ++ rest) h)
     ∙ ap (λ ls. line (item.Vector k) ∷ (map entry_line es ++ ls)) (lines_line item.End rest tt)
 
 -- and the text of such lines
 whole-entries : (es : List ℕ) (ls : List (List ℕ))
-    → written_All (λ l. l) (map entry_line es ++ ls) ≡ written_All entry_line es ++ written_All (λ l. l) ls
+    → written_all (λ l. l) (map entry_line es ++ ls) ≡ written_all entry_line es ++ written_all (λ l. l) ls
 whole-entries [] ls = refl
 whole-entries (e ∷ es) ls =
     ap (λ t. entry_line e ++ t) (whole-entries es ls)
-    ∙ sym (append_assoc (entry_line e) (written_All entry_line es) (written_All (λ l. l) ls))
+    ∙ sym (append_assoc (entry_line e) (written_all entry_line es) (written_all (λ l. l) ls))
 
 pub whole_vector : (k : Kind) (es : List ℕ) (ls : List (List ℕ))
-    → written_All (λ l. l) (vector_lines k es ls) ≡ render k es ++ written_All (λ l. l) ls
+    → written_all (λ l. l) (vector_lines k es ls) ≡ render k es ++ written_all (λ l. l) ls
 whole_vector k es ls =
     ap (λ t. line (item.Vector k) ++ t) (whole-entries es (line item.End ∷ ls))
-    ∙ sym (render-rest k es (written_All (λ l. l) ls))
+    ∙ sym (render-rest k es (written_all (λ l. l) ls))

@@ -1,6 +1,6 @@
 -- Vector text in terms of vectors: how a vector is spelled, and that exactly the spelled vectors are read.
 use Rattle.std.specs.Prelude.{◌≡◌, ℕ, ◌+◌, ◌^◌, ◌<◌, ◌≤◌, false, List, ◌++◌, length, is_ok, Ok, codes, decimal, Result}
-use Rattle.std.specs.List.{flat_map as written_All, AllByRecursion as All}
+use Rattle.std.specs.List.{flat_map as written_all, AllByRecursion as All}
 use Rattle.refusal.specs.Tellings.{Telling}
 use Rattle.lines.specs.Lines.{says_word, says_number}
 use Rattle.lines.specs.Writing.{written}
@@ -24,7 +24,7 @@ entry_line n = written (says_number (codes "entry") (decimal n) n)
 abbrev pub render : Kind → List ℕ → List ℕ
 render k es =
     written (says_word (codes "vector") (kind_word k))
-    ++ (written_All entry_line es ++ written (says_word (codes "end") (codes "vector")))
+    ++ (written_all entry_line es ++ written (says_word (codes "end") (codes "vector")))
 
 -- what is told of a vector at the head of a text, its first line having a number
 abbrev pub header_of : ℕ → Kind → List ℕ → List ℕ → Header
