@@ -1,7 +1,7 @@
 -- Hope and risk: one entry for each option.
 use Rattle.std.proofs.Common.{◌≡◌, ℕ, zero, suc, ◌+◌, ◌*◌, ◌^◌, ◌≤◌, List, [], ◌∷◌, length, get_or, sum, refl, ap, mul-le-mul_left, pow-suc, arith}
 use native.Mathlib.Nat.{le_of_mul-le-mul_left}
-use Rattle.std.specs.List.{AllByRecursion as All}
+use Rattle.std.specs.List.{AllByRecursion as Every}
 use Rattle.std.proofs.lemmas.List.{get_or_past}
 use Rattle.std.proofs.ByRecursion.{All-from_get_or}
 use Rattle.process.specs.declared.place.Move.{Move}
@@ -74,7 +74,7 @@ module _ (Q d : ℕ) (p : Process) (some : 1 ≤ length p) (y : List ℕ) where
         flow_under (λ _. k) k y (joined p) (all_same k (joined p)),
       )
     where
-      all_same : (k : ℕ) (os : List (List Move)) → All (λ (ms : List Move). k ≤ k) os
+      all_same : (k : ℕ) (os : List (List Move)) → Every (λ (ms : List Move). k ≤ k) os
       all_same k [] = tt
       all_same k (ms ∷ os) = (omega arith, all_same k os)
 

@@ -2,7 +2,7 @@
 use Rattle.std.proofs.Common.{◌≡◌, ℕ, zero, suc, ◌+◌, ◌-◌, ◌*◌, ◌^◌, ◌<◌, ◌≤◌, List, [], ◌∷◌, length, get_or, sym, refl, ap, ◌∙◌, subst, inl, inr, mul-le-mul_left, pow-suc, mul-one, arith}
 use mathlib.Core.Path.{fun_ext}
 use native.Mathlib.Nat.{pow-zero}
-use Rattle.std.specs.List.{AllByRecursion as All}
+use Rattle.std.specs.List.{AllByRecursion as Every}
 use Rattle.std.proofs.lemmas.List.{get_or_past}
 use Rattle.std.proofs.ByRecursion.{All-get_or, All-weaker}
 use Rattle.std.proofs.lemmas.Bool.{cases_lt}
@@ -18,7 +18,7 @@ use Rattle.bounds.proofs.Means.{worth_under, worth-weights}
 use Rattle.bounds.proofs.Extremes.{greatest_above, least_below, greatest-at, least_at, greatest_le, greatest_mono, least_mono}
 
 -- past the states there is no option
-pub anywhere : (p : Process) (P : ℕ → List Move → Type 0) → Options p P → (s : ℕ) → All (P s) (get_or p s [])
+pub anywhere : (p : Process) (P : ℕ → List Move → Type 0) → Options p P → (s : ℕ) → Every (P s) (get_or p s [])
 anywhere p P each s =
     elim (cases_lt s (length p)) [ inl l ↦ each s l | inr l ↦ rw (get_or_past p s [] l) tt ]
 

@@ -1,6 +1,6 @@
 -- Cap, floor and delay: one entry for each state.
 use Rattle.std.proofs.Common.{◌≡◌, ℕ, ◌+◌, ◌*◌, ◌^◌, ◌≤◌, Bool, List, [], ◌∷◌, length, get_or, subst, inl, inr, mul-le-mul_left, mul-one, arith}
-use Rattle.std.specs.List.{AllByRecursion as All}
+use Rattle.std.specs.List.{AllByRecursion as Every}
 use Rattle.std.proofs.lemmas.List.{get_or_past}
 use Rattle.std.proofs.ByRecursion.{All-get_or, All-weaker}
 use Rattle.std.proofs.lemmas.Bool.{cases_lt}
@@ -18,7 +18,7 @@ use Rattle.bounds.proofs.Plays.{arrived-cap, arrived-floor}
 use Rattle.bounds.proofs.Extremes.{greatest_le, least_ge}
 use Rattle.bounds.proofs.Orders.{anywhere, formed-whole, formed-some, Mixes, played_mixes}
 
-pub value_at_le : (Q : ℕ) (z : List ℕ) → All (λ x. x ≤ Q) z → (s : ℕ) → value_at z s ≤ Q
+pub value_at_le : (Q : ℕ) (z : List ℕ) → Every (λ x. x ≤ Q) z → (s : ℕ) → value_at z s ≤ Q
 value_at_le Q z limit s =
     elim (cases_lt s (length z))
     [ inl l ↦ All-get_or (λ x. x ≤ Q) z s 0 l limit | inr l ↦ rw (get_or_past z s 0 l) (omega arith) ]
@@ -73,7 +73,7 @@ one_more v ms =
 
 module _ (d G : ℕ) (p : Process) (play : Play) (mixes : Mixes G p play) where
   -- what each option of a state is under, what is played there is under, G times
-  pub under : (f : Place → ℕ) (b s : ℕ) (h : List ℕ) → All (λ ms. mean f ms ≤ b) (get_or p s []) → mean f (play s h) ≤ G * b
+  pub under : (f : Place → ℕ) (b s : ℕ) (h : List ℕ) → Every (λ ms. mean f ms ≤ b) (get_or p s []) → mean f (play s h) ≤ G * b
   under f b s h each =
       omega (
         arith,
@@ -118,7 +118,7 @@ module _ (d G : ℕ) (p : Process) (play : Play) (mixes : Mixes G p play) where
           | inr l ↦ rw (get_or_past z s 0 (omega arith)) (omega arith)
         ]
 
-    pub falls_any : (v : ℕ → ℕ) (b s : ℕ) (h : List ℕ) → All (λ ms. d + mean (worth v 0) ms ≤ b) (get_or p s [])
+    pub falls_any : (v : ℕ → ℕ) (b s : ℕ) (h : List ℕ) → Every (λ ms. d + mean (worth v 0) ms ≤ b) (get_or p s [])
         → weights (play s h) + mean (worth v 0) (play s h) ≤ G * b
     falls_any v b s h each =
         omega (
@@ -128,12 +128,12 @@ module _ (d G : ℕ) (p : Process) (play : Play) (mixes : Mixes G p play) where
               (paired (get_or p s []) (anywhere p (λ s ms. weights ms ≡ d) (formed-whole d p formed) s) each),
         )
       where
-        paired : (os : List (List Move)) → All (λ ms. weights ms ≡ d) os → All (λ ms. d + mean (worth v 0) ms ≤ b) os
-            → All (λ ms. mean (λ q. 1 + worth v 0 q) ms ≤ b) os
+        paired : (os : List (List Move)) → Every (λ ms. weights ms ≡ d) os → Every (λ ms. d + mean (worth v 0) ms ≤ b) os
+            → Every (λ ms. mean (λ q. 1 + worth v 0 q) ms ≤ b) os
         paired [] w f = tt
         paired (ms ∷ os) w f = (omega (arith, one_more v ms, w.0, f.0), paired os w.1 f.1)
 
-    pub floor_any : (Q : ℕ) (z v : List ℕ) → length z ≡ length p → All (λ x. x ≤ Q) z → FloorsBy Q d p z → DelaysBy d p v
+    pub floor_any : (Q : ℕ) (z v : List ℕ) → length z ≡ length p → Every (λ x. x ≤ Q) z → FloorsBy Q d p z → DelaysBy d p v
         → (N s : ℕ) (h : List ℕ)
         → N * value_at z s * (d * G) ^ N ≤ N * Q * arrived (d * G) play N s h + Q * value_at v s * (d * G) ^ N
     floor_any Q z v size limit floors delays =
@@ -153,7 +153,7 @@ cap_holds Q d p z size caps c N =
     (cap_any d 1 p (played p c) (played_mixes p c) is_target Q z (caps_by Q d p z size caps) N 0 [])
 
 pub floor_holds : (Q d : ℕ) (p : Process) → Formed d p → (z v : List ℕ) → length z ≡ length p → length v ≡ length p
-    → All (λ x. x ≤ Q) z → Floors Q d p z → Delays d p v → FloorHolds Q d p (value_at z 0) (value_at v 0)
+    → Every (λ x. x ≤ Q) z → Floors Q d p z → Delays d p v → FloorHolds Q d p (value_at z 0) (value_at v 0)
 floor_holds Q d p formed z v size size' limit floors delays c N =
     subst
     (λ (e : ℕ). N * value_at z 0 * e ^ N ≤ N * Q * arrived e (played p c) N 0 [] + Q * value_at v 0 * e ^ N)

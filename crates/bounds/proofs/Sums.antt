@@ -1,7 +1,7 @@
 -- Sums over options and over states, and the one exchanged for the other.
 use Rattle.std.proofs.Common.{◌≡◌, ℕ, zero, suc, ◌+◌, ◌*◌, ◌<◌, ◌≤◌, cond, ltb, List, [], ◌∷◌, ◌++◌, length, get_or, take, drop, sum, sym, refl, ap, ◌∙◌, inl, inr, suc-le-suc, mul-le-mul_left, arith}
 use mathlib.Core.Path.{fun_ext}
-use Rattle.std.specs.List.{AllByRecursion as All}
+use Rattle.std.specs.List.{AllByRecursion as Every}
 use Rattle.std.proofs.lemmas.List.{get_or_past, length-append, length-take, drop-drop}
 use Rattle.std.proofs.lemmas.List.Sums.{sum_by-cons}
 use Rattle.std.proofs.lemmas.Bool.{cases_lt, cases_order, lt-ltb, le-ltb, eq-eqb, ne_eqb}
@@ -25,7 +25,7 @@ flow-append f y [] rest = omega arith
 flow-append f [] (ms ∷ os) rest = omega arith
 flow-append f (y ∷ ys) (ms ∷ os) rest = omega (arith, flow-append f ys os rest)
 
-pub flow_under : (f : List Move → ℕ) (b : ℕ) (y : List ℕ) (os : List (List Move)) → All (λ ms. f ms ≤ b) os
+pub flow_under : (f : List Move → ℕ) (b : ℕ) (y : List ℕ) (os : List (List Move)) → Every (λ ms. f ms ≤ b) os
     → flow f y os ≤ sum y * b
 flow_under f b [] os all = omega arith
 flow_under f b (y ∷ ys) [] all = omega arith
@@ -33,7 +33,7 @@ flow_under f b (y ∷ ys) (ms ∷ os) all =
     rw (sum_by-cons (λ x. x) y ys) (omega (arith, mul-le-mul_left y all.0, flow_under f b ys os all.1))
 
 pub flow-over : (f : List Move → ℕ) (b : ℕ) (y : List ℕ) (os : List (List Move)) → length y ≤ length os
-    → All (λ ms. b ≤ f ms) os → sum y * b ≤ flow f y os
+    → Every (λ ms. b ≤ f ms) os → sum y * b ≤ flow f y os
 flow-over f b [] os l all = omega arith
 flow-over f b (y ∷ ys) [] l all = omega arith
 flow-over f b (y ∷ ys) (ms ∷ os) l all =

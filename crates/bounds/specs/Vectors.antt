@@ -1,7 +1,7 @@
 -- The inequalities of the five vectors. Q is certainty, d the scale; z and v have one entry for each state, y one for
 -- each option.
 use Rattle.std.specs.Prelude.{ℕ, zero, suc, ◌+◌, ◌*◌, ◌<◌, ◌≤◌, cond, List, [], ◌∷◌, length, take, drop, sum, ◌==◌, slice_index, slice_index_or}
-use Rattle.std.specs.List.{AllByRecursion as All}
+use Rattle.std.specs.List.{AllByRecursion as Every}
 use Rattle.process.specs.declared.place.Move.{Move}
 use Rattle.process.specs.Process.{Process, joined}
 use Rattle.process.specs.Means.{mean, worth}
@@ -41,7 +41,7 @@ DelayAt d n v s ms = d + carried n v ms ≤ d * value_at v s
 
 -- P of every option of every state
 abbrev pub Options : Process → (ℕ → List Move → Type 0) → Type 0
-Options p P = (s : ℕ) → s < length p → All (P s) (slice_index_or p s [])
+Options p P = (s : ℕ) → s < length p → Every (P s) (slice_index_or p s [])
 
 abbrev pub Caps : (Q d : ℕ) (p : Process) → List ℕ → Type 0
 Caps Q d p z = Options p (CapAt Q d (length p) z)

@@ -1,7 +1,7 @@
 -- The lines of a depot that fits run to the end, and leave its encoding in the lists.
 use Rattle.std.proofs.Common.{◌≡◌, ℕ, ◌+◌, ◌-◌, ◌*◌, ◌<◌, ◌≤◌, Bool, true, cond, ◌||◌, ltb, leb, List, [], ◌∷◌, ◌++◌, map, length, set, Some, Ok, Result, sym, refl, ap, ◌∙◌, subst, append_assoc, append-nil, arith, length-append}
 use lib.ListN.{length-map}
-use Rattle.std.specs.List.{AllByRecursion as All}
+use Rattle.std.specs.List.{AllByRecursion as Every}
 use Rattle.std.proofs.lemmas.List.{length_push, map-append}
 use Rattle.std.proofs.lemmas.Bool.{cond-true, and_from, or_right, lt-ltb, le-leb, eq-eqb}
 use Rattle.refusal.specs.Tellings.{Telling}
@@ -153,7 +153,7 @@ module _ (r : Rules) (n u v : ℕ) (O S M : List ℕ) (room : Room r n u v O S M
     -- moves that are left of an option: nothing is lacking after them
     moves_on : (todo : List SpelledMove) (m : ℕ) (s : Progress) (C : List ℕ) → Counts s n b f o m → may_to s ≡ true
         → (length todo ≡ 0 → Late s) → s.lacks ≡ Some (weights (map move_of todo))
-        → All (λ x. Within n x.place) (map move_of todo) → weights (map move_of todo) ≤ r.scale
+        → Every (λ x. Within n x.place) (map move_of todo) → weights (map move_of todo) ≤ r.scale
         → m + length todo ≤ v → length C ≡ 2 * m
         → (y : Progress) × Counts y n b f o (m + length todo) × Late y × (y.lacks ≡ Some 0)
         × Goes r s (fill A B C) (move_items todo) y (fill A B (C ++ moves_written (map move_of todo)))
@@ -178,7 +178,7 @@ module _ (r : Rules) (n u v : ℕ) (O S M : List ℕ) (room : Room r n u v O S M
     -- options that are left of a state, the first of them number j
     options_on : (todo : List (List SpelledMove)) (j o m : ℕ) (s : Progress) (B C : List ℕ) → Counts s n b f o m
         → (at_phase s.phase phase.State || at_phase s.phase phase.Weight) ≡ true → closed s ≡ true
-        → (length todo ≡ 0 → Late s) → All (OptionFormed r.scale n) (map (map move_of) todo)
+        → (length todo ≡ 0 → Late s) → Every (OptionFormed r.scale n) (map (map move_of) todo)
         → f + j ≡ o → o + length todo ≤ u → m + length (joined todo) ≤ v → length B ≡ o → length C ≡ 2 * m
         → (y : Progress) × Counts y n b f (o + length todo) (m + length (joined todo)) × Late y × (closed y ≡ true)
         × Goes r s (fill A B C) (option_items j todo) y
@@ -232,7 +232,7 @@ module _ (r : Rules) (n u v : ℕ) (O S M : List ℕ) (room : Room r n u v O S M
   -- states that are left, and the end
   states_on : (todo : Tree) (b f o m : ℕ) (s : Progress) (A B C : List ℕ) → Counts s n b f o m
       → (at_phase s.phase phase.States || at_phase s.phase phase.Weight) ≡ true → closed s ≡ true
-      → (length todo ≡ 0 → Late s) → All (StateFormed r.scale n) (process_of todo)
+      → (length todo ≡ 0 → Late s) → Every (StateFormed r.scale n) (process_of todo)
       → b + length todo ≡ n → o + length (joined todo) ≤ u → m + length (joined (joined todo)) ≤ v
       → length A ≡ b → length B ≡ o → length C ≡ 2 * m
       → (y : Progress) × (at_phase y.phase phase.End ≡ true)
@@ -333,7 +333,7 @@ module _ (d : ℕ) (l : Lists) (t : Tree) (h : Fits d l t) where
       let g =
       states_on r n (length (joined t)) (length (joined (joined t))) l.option_starts l.move_starts l.moves room
       t 0 0 0 0 s2 [] [] [] zero refl refl (λ z. absurd (omega (arith, f.some_state)))
-      (subst (λ k. All (StateFormed d k) (process_of t)) long f.each)
+      (subst (λ k. Every (StateFormed d k) (process_of t)) long f.each)
       (omega arith) (omega arith) (omega arith) refl refl refl in
       let x = sym (starts-map (map move_of) 0 t) in
       let y = sym (ap (starts_from 0) (joined-map (map move_of) t) ∙ starts-map move_of 0 (joined t)) in

@@ -1,7 +1,7 @@
 -- Items that run to the end spell a depot that fits.
 use Rattle.std.proofs.Common.{◌≡◌, ℕ, ◌+◌, ◌-◌, ◌≤◌, true, cond, ◌||◌, eqb, leb, List, [], ◌∷◌, ◌++◌, map, length, Some, None, Ok, Err, Option, Result, sym, refl, ap, ◌∙◌, subst, ⊎_elim, append_assoc, arith, length-append}
 use lib.ListN.{length-map}
-use Rattle.std.specs.List.{AllByRecursion as All}
+use Rattle.std.specs.List.{AllByRecursion as Every}
 use Rattle.std.proofs.lemmas.Bool.{cond-true, cond-false, cases_Bool, and_parts, or_cases, ltb-true, leb-true, eqb-true}
 use Rattle.std.proofs.ByRecursion.{All-weaker}
 use Rattle.refusal.specs.Tellings.{Telling, at_text}
@@ -112,8 +112,8 @@ module _ (r : Rules) where
     moves : y.moves ≡ m + (length (joined os) + length (joined (joined t)))
     option_room : y.options ≤ r.options
     move_room : y.moves ≤ r.moves
-    each-option : All (OptionFormed r.scale n) (map (map move_of) os)
-    each_state : All (StateFormed r.scale n) (process_of t)
+    each-option : Every (OptionFormed r.scale n) (map (map move_of) os)
+    each_state : Every (StateFormed r.scale n) (process_of t)
 
   -- the same from s, after k moves more of the last option
   abbrev Ahead : Progress → Progress → ℕ → List (List SpelledMove) → Tree → Type 0
@@ -128,7 +128,7 @@ module _ (r : Rules) where
   abbrev MovesAhead : Progress → List Item → Progress → List SpelledMove → List (List SpelledMove) → Tree → Type 0
   MovesAhead s is y ms os t =
       (is ≡ move_items ms ++ options_left s os t) × (s.lacks ≡ Some (weights (map move_of ms)))
-      × All (λ m. Within s.states m.place) (map move_of ms) × Ahead s y (length ms) os t
+      × Every (λ m. Within s.states m.place) (map move_of ms) × Ahead s y (length ms) os t
 
   abbrev Small : ℕ → Type 0
   Small n = (1 ≤ n) × (n ≤ 4096) × (n ≤ r.states)
@@ -150,7 +150,7 @@ module _ (r : Rules) where
       (w : ℕ) × (ms : List SpelledMove) × (os : List (List SpelledMove)) × (t : Tree)
       × (is ≡ item.Weight w ∷ (move_items ms ++ options_left s os t))
       × (s.lacks ≡ Some (w + weights (map move_of ms)))
-      × All (λ m. Within s.states m.place) (map move_of ms) × Ahead s y (length ms) os t
+      × Every (λ m. Within s.states m.place) (map move_of ms) × Ahead s y (length ms) os t
   RestAt phase.Weight s is y =
       (ms : List SpelledMove) × (os : List (List SpelledMove)) × (t : Tree) × MovesAhead s is y ms os t
   RestAt phase.End s is y = (is ≡ []) × (s ≡ y)
@@ -347,7 +347,7 @@ run_spells d first l is y some limit e =
       state_limit = omega (arith, x.3);
       option_limit = omega (arith, a.option_room);
       move_limit = omega (arith, a.move_room);
-      each = subst (λ k. All (StateFormed d k) (process_of t)) same a.each_state;
+      each = subst (λ k. Every (StateFormed d k) (process_of t)) same a.each_state;
     } in
     let some_option : 1 ≤ length (joined (process_of t)) =
     some-joined (process_of t) (omega (arith, x.3))

@@ -1,6 +1,6 @@
 -- An accepted text is the lines of its items, one after the other, and those lines are read as their items.
 use Rattle.std.proofs.Common.{◌≡◌, ℕ, ◌+◌, ◌^◌, ◌<◌, true, ◌&&◌, List, [], ◌∷◌, ◌++◌, map, is_ok, Some, None, Ok, Err, codes, decimal, Option, Result, sym, refl, ap, ◌∙◌, subst, inl, inr, arith, length-append}
-use Rattle.std.specs.List.{flat_map as written_all, AllByRecursion as All}
+use Rattle.std.specs.List.{flat_map as written_all, AllByRecursion as Every}
 use Rattle.std.specs.Str.{bytes_eq}
 use Rattle.std.proofs.lemmas.Slice.Eq.{bytes_eq-Decides}
 use Rattle.std.proofs.lemmas.Bool.{cond-true, cond-false, cond_both, cases_Bool, and_parts, eqb-true, false≢true}
@@ -95,7 +95,7 @@ said_item (says_number key v n) h =
 abbrev pub line : Item → List ℕ
 line i = written (says i)
 
-pub lines_items : (is : List Item) → All ProperItem is → lines (written_all (λ i. written (says i)) is) ≡ map line is
+pub lines_items : (is : List Item) → Every ProperItem is → lines (written_all (λ i. written (says i)) is) ≡ map line is
 lines_items [] h = refl
 lines_items (i ∷ is) h =
     let rest = written_all (λ i. written (says i)) is in
@@ -153,7 +153,7 @@ module _ (r : Rules) where
   then-onto (Ok s) at ls f h = h s
   then-onto (Err e) at ls f h = refl
 
-  reads_items : (s : Progress) (at : ℕ) (is : List Item) → All ProperItem is
+  reads_items : (s : Progress) (at : ℕ) (is : List Item) → Every ProperItem is
       → reads_on (depot r s) at (map line is) ≡ onto r (run r s at is)
   reads_items s at [] h =
       elim (cases_Bool (ended (depot r s))) [
@@ -186,7 +186,7 @@ module _ (r : Rules) where
   onward-onto (Ok s) l f g h = h s
   onward-onto (Err e) l f g h = refl
 
-  filled_items : (s : Progress) (at : ℕ) (l : Lists) (is : List Item) → All ProperItem is
+  filled_items : (s : Progress) (at : ℕ) (l : Lists) (is : List Item) → Every ProperItem is
       → filled next ended puts (depot r s) at (map line is) l ≡ wrote r s at l is
   filled_items s at l [] h = refl
   filled_items s at l (i ∷ is) h =
@@ -206,7 +206,7 @@ module _ (r : Rules) where
 
   -- lines that are accepted are those of proper items
   abbrev Items : List (List ℕ) → Type 0
-  Items ls = (is : List Item) × (ls ≡ map line is) × All ProperItem is
+  Items ls = (is : List Item) × (ls ≡ map line is) × Every ProperItem is
 
   module _ (s : Progress) (at : ℕ) (l : List ℕ) (ls : List (List ℕ)) (m : Depot)
       (more : (s' : Progress) → reads_on (depot r s') (at + 1) ls ≡ Ok m → Items ls) where
@@ -247,7 +247,7 @@ module _ (r : Rules) where
 module _ (d first : ℕ) where
   pub items_of_read : (t : List ℕ) (l : Lists) (m : Depot) → read d first t l ≡ Ok m
       → (is : List Item) × (t ≡ written_all (λ i. written (says i)) is)
-      × (run (rules_of d l) start first is ≡ Ok m.progress) × All ProperItem is
+      × (run (rules_of d l) start first is ≡ Ok m.progress) × Every ProperItem is
       × (m ≡ depot (rules_of d l) m.progress)
   items_of_read t l m e =
       let r = rules_of d l in
@@ -256,14 +256,14 @@ module _ (d first : ℕ) where
       let w = ran r (run r start first q.0) m same in
       (q.0, text_of_items t q.0 q.1, w.0, q.2, w.1)
 
-  pub read_of_items : (l : Lists) (is : List Item) (y : Progress) → All ProperItem is
+  pub read_of_items : (l : Lists) (is : List Item) (y : Progress) → Every ProperItem is
       → run (rules_of d l) start first is ≡ Ok y
       → read d first (written_all (λ i. written (says i)) is) l ≡ Ok (depot (rules_of d l) y)
   read_of_items l is y h e =
       let r = rules_of d l in
       ap (reads_on (depot r start) first) (lines_items is h) ∙ reads_items r start first is h ∙ ap (onto r) e
 
-  pub filled_of_items : (l : Lists) (is : List Item) (y : Progress) → All ProperItem is
+  pub filled_of_items : (l : Lists) (is : List Item) (y : Progress) → Every ProperItem is
       → run (rules_of d l) start first is ≡ Ok y
       → filled next ended puts (beginning d l) first (lines (written_all (λ i. written (says i)) is)) l
       ≡ wrote (rules_of d l) start first l is

@@ -1,6 +1,6 @@
 -- Spelling can be undone: a text has one list of items, and a list of items spells one depot.
 use Rattle.std.proofs.Common.{◌≡◌, ℕ, ◌+◌, List, [], ◌∷◌, ◌++◌, map, Some, None, Option, sym, refl, ap, ◌∙◌, append_assoc, append-nil}
-use Rattle.std.specs.List.{flat_map as written_all, AllByRecursion as All}
+use Rattle.std.specs.List.{flat_map as written_all, AllByRecursion as Every}
 use Rattle.lines.specs.Lines.{Said, parsed}
 use Rattle.lines.specs.Writing.{written}
 use Rattle.passes.specs.Texts.{lines}
@@ -19,14 +19,14 @@ meant (Some s) = item_of s
 abbrev items_in : List ℕ → List Item
 items_in t = map (λ l. meant (parsed l)) (lines t)
 
-undo_lines : (is : List Item) → All ProperItem is → map (λ l. meant (parsed l)) (map line is) ≡ is
+undo_lines : (is : List Item) → Every ProperItem is → map (λ l. meant (parsed l)) (map line is) ≡ is
 undo_lines [] h = refl
 undo_lines (i ∷ is) h = λ j. (ap meant (parsed_line i h.0) ∙ means_says i h.0) j ∷ undo_lines is h.1 j
 
-undo_text : (is : List Item) → All ProperItem is → items_in (written_all (λ i. written (says i)) is) ≡ is
+undo_text : (is : List Item) → Every ProperItem is → items_in (written_all (λ i. written (says i)) is) ≡ is
 undo_text is h = ap (map (λ l. meant (parsed l))) (lines_items is h) ∙ undo_lines is h
 
-pub one_spelling : (is js : List Item) → All ProperItem is → All ProperItem js
+pub one_spelling : (is js : List Item) → Every ProperItem is → Every ProperItem js
     → written_all (λ i. written (says i)) is ≡ written_all (λ i. written (says i)) js → is ≡ js
 one_spelling is js hi hj e = sym (undo_text is hi) ∙ ap items_in e ∙ undo_text js hj
 

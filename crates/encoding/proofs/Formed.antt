@@ -1,6 +1,6 @@
 -- Lists that are taken mean a process that is well formed.
 use Rattle.std.proofs.Common.{◌≡◌, ℕ, ◌-◌, ◌≤◌, true, leb, List, [], ◌∷◌, length, is_ok, ap, ◌∙◌, arith}
-use Rattle.std.specs.List.{AllByRecursion as All}
+use Rattle.std.specs.List.{AllByRecursion as Every}
 use Rattle.std.proofs.ByRecursion.{All-weaker}
 use Rattle.std.proofs.lemmas.Bool.{ltb-true, eqb-true, and_parts}
 use Rattle.process.specs.declared.place.Place.{Place}
@@ -20,22 +20,22 @@ within-says n (State s) e = ltb-true s n e
 within-says n (Ends q) e = tt
 
 module _ (d n : ℕ) where
-  option-places : (ms : List Move) → All (λ m. move_fits d n m ≡ true) ms → All (λ m. Within n m.place) ms
+  option-places : (ms : List Move) → Every (λ m. move_fits d n m ≡ true) ms → Every (λ m. Within n m.place) ms
   option-places ms =
       All-weaker (λ m. move_fits d n m ≡ true) (λ m. Within n m.place)
       (λ m e. within-says n m.place (and_parts (within n m.place) (leb m.weight d) e).0) ms
 
-  options_formed : (os : List (List Move)) → All (λ ms. 1 ≤ length ms) os → All (λ ms. sum_fits d ms ≡ true) os
-      → All (All (λ m. move_fits d n m ≡ true)) os → All (OptionFormed d n) os
+  options_formed : (os : List (List Move)) → Every (λ ms. 1 ≤ length ms) os → Every (λ ms. sum_fits d ms ≡ true) os
+      → Every (Every (λ m. move_fits d n m ≡ true)) os → Every (OptionFormed d n) os
   options_formed [] a b c = tt
   options_formed (ms ∷ os) a b c =
       let here : OptionFormed d n ms =
       record { some_move = a.0; sum = eqb-true (weights ms) d b.0; places = option-places ms c.0 } in
       (here, options_formed os a.1 b.1 c.1)
 
-  states_formed : (p : Process) → All (λ os. 1 ≤ length os) p → All (All (OptionFormed d n)) p → All (StateFormed d n) p
+  states_formed : (p : Process) → Every (λ os. 1 ≤ length os) p → Every (Every (OptionFormed d n)) p → Every (StateFormed d n) p
   states_formed =
-      all_both (λ os. 1 ≤ length os) (All (OptionFormed d n)) (StateFormed d n)
+      all_both (λ os. 1 ≤ length os) (Every (OptionFormed d n)) (StateFormed d n)
       (λ os a b. record { some_option = a; each = b })
 
 module _ (d : ℕ) (l : Lists) (k : Sound d l) where
@@ -45,9 +45,9 @@ module _ (d : ℕ) (l : Lists) (k : Sound d l) where
   pub read-moves : joined (joined (process_read l)) ≡ moves_read l.moves
   read-moves = ap joined read_options ∙ joined-pieces l.move_starts (moves_read l.moves) k.move_rise
 
-  read-each : (n : ℕ) → n ≡ length l.option_starts - 1 → All (StateFormed d n) (process_read l)
+  read-each : (n : ℕ) → n ≡ length l.option_starts - 1 → Every (StateFormed d n) (process_read l)
   read-each n e =
-      let fit : All (λ m. move_fits d n m ≡ true) (moves_read l.moves) = rw e k.fit in
+      let fit : Every (λ m. move_fits d n m ≡ true) (moves_read l.moves) = rw e k.fit in
       let some = some-pieces l.move_starts (moves_read l.moves) k.move_rise in
       let fits = all_pieces (λ m. move_fits d n m ≡ true) l.move_starts (moves_read l.moves) fit in
       let each = options_formed d n (options_read l) some k.sums fits in

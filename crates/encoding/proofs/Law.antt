@@ -1,6 +1,6 @@
 -- Lists are taken exactly when they are the encoding of a well-formed process, which they then mean.
 use Rattle.std.proofs.Common.{◌≡◌, ℕ, ◌-◌, ◌≤◌, Bool, true, leb, List, [], ◌∷◌, length, is_ok, sym, refl, ap, ◌∙◌, arith}
-use Rattle.std.specs.List.{AllByRecursion as All}
+use Rattle.std.specs.List.{AllByRecursion as Every}
 use Rattle.std.proofs.ByRecursion.{All-weaker}
 use Rattle.std.proofs.lemmas.Bool.{lt-ltb, le-leb, eq-eqb, and_from}
 use Rattle.process.specs.declared.place.Place.{Place}
@@ -33,11 +33,11 @@ says-within n (State s) w = lt-ltb s n w
 says-within n (Ends q) w = refl
 
 -- no move weighs more than its option
-each-weight : (d : ℕ) (ms : List Move) → weights ms ≤ d → All (λ m. m.weight ≤ d) ms
+each-weight : (d : ℕ) (ms : List Move) → weights ms ≤ d → Every (λ m. m.weight ≤ d) ms
 each-weight d [] h = tt
 each-weight d (m ∷ ms) h = (omega arith, each-weight d ms (omega arith))
 
-option-fits : (d n : ℕ) (ms : List Move) → OptionFormed d n ms → All (λ m. move_fits d n m ≡ true) ms
+option-fits : (d n : ℕ) (ms : List Move) → OptionFormed d n ms → Every (λ m. move_fits d n m ≡ true) ms
 option-fits d n ms f =
     all_both (λ m. Within n m.place) (λ m. m.weight ≤ d) (λ m. move_fits d n m ≡ true)
     (λ m a b. and_from (within n m.place) (leb m.weight d) (says-within n m.place a) (le-leb m.weight d b))
@@ -46,15 +46,15 @@ option-fits d n ms f =
 -- the encoding of a well-formed process
 module _ (d : ℕ) (p : Process) (f : Formed d p) where
   -- what follows from its form for each option, and for each move
-  of_options : (Q : List Move → Type 0) → ((ms : List Move) → OptionFormed d (length p) ms → Q ms) → All Q (joined p)
+  of_options : (Q : List Move → Type 0) → ((ms : List Move) → OptionFormed d (length p) ms → Q ms) → Every Q (joined p)
   of_options Q g =
       all_joined Q p
-      (All-weaker (StateFormed d (length p)) (All Q)
+      (All-weaker (StateFormed d (length p)) (Every Q)
       (λ os s. All-weaker (OptionFormed d (length p)) Q g os s.each) p f.each)
 
-  of_moves : (P : Move → Type 0) → ((ms : List Move) → OptionFormed d (length p) ms → All P ms)
-      → All P (joined (joined p))
-  of_moves P g = all_joined P (joined p) (of_options (All P) g)
+  of_moves : (P : Move → Type 0) → ((ms : List Move) → OptionFormed d (length p) ms → Every P ms)
+      → Every P (joined (joined p))
+  of_moves P g = all_joined P (joined p) (of_options (Every P) g)
 
   encoding-moves : moves_read (encoding p).moves ≡ joined (joined p)
   encoding-moves =

@@ -1,6 +1,6 @@
 -- Places and moves as numbers: reading undoes writing, and writing undoes reading.
 use Rattle.std.proofs.Common.{◌≡◌, ℕ, zero, suc, ◌+◌, ◌*◌, ◌/◌, ◌%◌, ◌<◌, ◌≤◌, cond, eqb, List, [], ◌∷◌, length, get_or, sym, refl, arith}
-use Rattle.std.specs.List.{AllByRecursion as All}
+use Rattle.std.specs.List.{AllByRecursion as Every}
 use Rattle.std.proofs.lemmas.Bool.{eqb-true, ne_eqb, cond_both}
 use Rattle.process.specs.declared.place.End.TheVariants.{Target, Exit}
 use Rattle.process.specs.declared.place.Place.{Place}
@@ -46,7 +46,7 @@ written_read [] h = refl
 written_read (p ∷ []) h = absurd (omega arith)
 written_read (p ∷ (w ∷ r)) h = rw (number_read p, written_read r (omega arith))
 
-pub read-written : (n : ℕ) (ms : List Move) → n ≤ 4096 → All (λ m. Within n m.place) ms
+pub read-written : (n : ℕ) (ms : List Move) → n ≤ 4096 → Every (λ m. Within n m.place) ms
     → moves_read (moves_written ms) ≡ ms
 read-written n [] h w = refl
 read-written n (m ∷ ms) h w = rw (read_number n m.place h w.0, read-written n ms h w.1)

@@ -1,6 +1,6 @@
 -- A list cut at rising starts, and the starts of lists that stand one after another: each undoes the other.
 use Rattle.std.proofs.Common.{◌≡◌, ℕ, zero, suc, ◌+◌, ◌-◌, ◌<◌, ◌≤◌, true, eqb, ltb, List, [], ◌∷◌, ◌++◌, length, get_or, take, drop, sym, refl, ap, ◌∙◌, inl, inr, add-one, arith, length-append, length-drop}
-use Rattle.std.specs.List.{AllByRecursion as All}
+use Rattle.std.specs.List.{AllByRecursion as Every}
 use Rattle.std.proofs.lemmas.List.{drop_all, drop-drop, drop_at, take_at, take-append-drop, length-take-le, get_or_past, get_or-take, get_or-drop}
 use Rattle.std.proofs.ByRecursion.{All-take, All-drop}
 use Rattle.std.proofs.lemmas.Bool.{cases_lt, ltb-true, lt-ltb, eqb-true, eq-eqb, and_parts, and_from, false≢true}
@@ -25,7 +25,7 @@ pub get_or-pieces : {A : Type 0} (us : List ℕ) (xs : List A) (i : ℕ) → i +
     → get_or (pieces us xs) i [] ≡ take (get_or us (i + 1) 0 - get_or us i 0) (drop (get_or us i 0) xs)
 get_or-pieces us xs i h = rw add-one (piece us xs i (omega arith))
 
-pub all_pieces : {A : Type 0} (P : A → Type 0) (us : List ℕ) (xs : List A) → All P xs → All (All P) (pieces us xs)
+pub all_pieces : {A : Type 0} (P : A → Type 0) (us : List ℕ) (xs : List A) → Every P xs → Every (Every P) (pieces us xs)
 all_pieces P [] xs h = tt
 all_pieces P (a ∷ []) xs h = tt
 all_pieces P (a ∷ (b ∷ r)) xs h = (All-take P (b - a) (drop a xs) (All-drop P a xs h), all_pieces P (b ∷ r) xs h)
@@ -108,7 +108,7 @@ module _ {A : Type 0} (xs : List A) where
         rises-first b r (rises_parts a b r (length xs) e).1 i (omega arith),
       )
 
-  rises-some : (a : ℕ) (r : List ℕ) → rises a r (length xs) ≡ true → All (λ l. 1 ≤ length l) (pieces (a ∷ r) xs)
+  rises-some : (a : ℕ) (r : List ℕ) → rises a r (length xs) ≡ true → Every (λ l. 1 ≤ length l) (pieces (a ∷ r) xs)
   rises-some a [] e = tt
   rises-some a (b ∷ r) e =
       let p = rises_parts a b r (length xs) e in (omega (arith, first-length a b r e), rises-some b r p.1)
@@ -131,8 +131,8 @@ module _ {A : Type 0} (us : List ℕ) (xs : List A) (k : starts us (length xs) �
       (λ r e i h. omega (arith, rises-first xs 0 r e i (omega arith)))
 
   -- no piece is empty
-  pub some-pieces : All (λ l. 1 ≤ length l) (pieces us xs)
-  some-pieces = from_rises us (length xs) k (λ us. All (λ l. 1 ≤ length l) (pieces us xs)) (rises-some xs 0)
+  pub some-pieces : Every (λ l. 1 ≤ length l) (pieces us xs)
+  some-pieces = from_rises us (length xs) k (λ us. Every (λ l. 1 ≤ length l) (pieces us xs)) (rises-some xs 0)
 
   pub starts-pieces : starts_from 0 (pieces us xs) ≡ us
   starts-pieces = from_rises us (length xs) k (λ us. starts_from 0 (pieces us xs) ≡ us) (rises-starts xs 0)
@@ -166,13 +166,13 @@ length-starts n [] = refl
 length-starts n (xs ∷ xss) = omega (arith, length-starts (n + length xs) xss)
 
 rises_from : {A : Type 0} (a n end : ℕ) (xss : List (List A)) → a < n → n + length (joined xss) ≡ end
-    → All (λ l. 1 ≤ length l) xss → rises a (starts_from n xss) end ≡ true
+    → Every (λ l. 1 ≤ length l) xss → rises a (starts_from n xss) end ≡ true
 rises_from a n end [] h e s = and_from (ltb a n) (eqb n end) (lt-ltb a n h) (eq-eqb n end (omega arith))
 rises_from a n end (xs ∷ xss) h e s =
     and_from (ltb a n) _ (lt-ltb a n h)
     (rises_from n (n + length xs) end xss (omega (arith, s.0)) (omega (arith, length-append xs (joined xss))) s.1)
 
-pub starts_good : {A : Type 0} (xss : List (List A)) → All (λ l. 1 ≤ length l) xss
+pub starts_good : {A : Type 0} (xss : List (List A)) → Every (λ l. 1 ≤ length l) xss
     → starts (starts_from 0 xss) (length (joined xss)) ≡ true
 starts_good [] s = refl
 starts_good (xs ∷ xss) s =

@@ -1,6 +1,6 @@
 -- What is known of three lists that are taken.
 use Rattle.std.proofs.Common.{◌≡◌, ℕ, ◌-◌, ◌/◌, ◌%◌, ◌≤◌, true, eqb, length, is_ok, ap, ◌∙◌}
-use Rattle.std.specs.List.{AllByRecursion as All}
+use Rattle.std.specs.List.{AllByRecursion as Every}
 use Rattle.std.proofs.lemmas.Bool.{eqb-true, eq-eqb, and_parts, and_from}
 use Rattle.refusal.specs.Tellings.{at_table}
 use Rattle.refusal.specs.Tests.{between}
@@ -22,8 +22,8 @@ pub record Sound (d : ℕ) (l : Lists) : Type 0 where
   pub even : length l.moves % 2 ≡ 0
   pub option_rise : starts l.option_starts (length (options_read l)) ≡ true
   pub move_rise : starts l.move_starts (length (moves_read l.moves)) ≡ true
-  pub fit : All (λ m. move_fits d (length l.option_starts - 1) m ≡ true) (moves_read l.moves)
-  pub sums : All (λ ms. sum_fits d ms ≡ true) (options_read l)
+  pub fit : Every (λ m. move_fits d (length l.option_starts - 1) m ≡ true) (moves_read l.moves)
+  pub sums : Every (λ ms. sum_fits d ms ≡ true) (options_read l)
 
 -- lists are taken exactly when they are sound
 module _ (d : ℕ) (l : Lists) where

@@ -1,7 +1,7 @@
 -- A verdict on a hope or a risk is acceptance exactly where the inequalities hold, and what it names is the first that
 -- fails.
 use Rattle.std.proofs.Common.{◌≡◌, ℕ, ◌+◌, ◌*◌, ◌<◌, ◌≤◌, Bool, true, eqb, leb, List, [], ◌∷◌, length, get_or, is_ok, Some, Ok, Err, Decides, Option, Result, sym, refl, ap, ◌∙◌, subst, zero-add, arith}
-use Rattle.std.specs.List.{range_with_len, AllByRecursion as All}
+use Rattle.std.specs.List.{range_with_len, AllByRecursion as Every}
 use Rattle.std.proofs.lemmas.List.FromFn.{length-range_with_len, get_or-range_with_len}
 use Rattle.std.proofs.ByRecursion.{All-get_or, All-from_get_or}
 use Rattle.std.proofs.lemmas.Bool.{eqb-true, eq-eqb}
@@ -25,10 +25,10 @@ balanced_decides Hope d p y s = decides_leb (d * own p y s) (inflow p y s + d * 
 balanced_decides Risk d p y s = decides_leb (inflow p y s + d * 1000000 * one_at 0 s) (d * own p y s)
 
 -- what holds of each number below n
-below_all : (P : ℕ → Type 0) (n : ℕ) → All P (range_with_len 0 n) → (s : ℕ) → s < n → P s
+below_all : (P : ℕ → Type 0) (n : ℕ) → Every P (range_with_len 0 n) → (s : ℕ) → s < n → P s
 below_all P n h s l = rw (get_or-range_with_len 0 n s 0 l, zero-add) at (All-get_or P (range_with_len 0 n) s 0 (rw length-range_with_len l) h)
 
-all_below : (P : ℕ → Type 0) (n : ℕ) → ((s : ℕ) → s < n → P s) → All P (range_with_len 0 n)
+all_below : (P : ℕ → Type 0) (n : ℕ) → ((s : ℕ) → s < n → P s) → Every P (range_with_len 0 n)
 all_below P n h =
     All-from_get_or P (range_with_len 0 n) 0
     (λ i l. let l' : i < n = rw length-range_with_len at l in rw (get_or-range_with_len 0 n i 0 l', zero-add) (h i l'))

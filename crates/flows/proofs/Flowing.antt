@@ -1,6 +1,6 @@
 -- Sums over options: one turn of a loop, and bounds.
 use Rattle.std.proofs.Common.{◌≡◌, ℕ, zero, suc, ◌+◌, ◌*◌, ◌^◌, ◌<◌, ◌≤◌, Bool, true, false, eqb, List, [], ◌∷◌, length, get_or, take, drop, Some, None, sum, sym, refl, ap, ◌∙◌, suc-le-suc, le_refl, add_assoc, mul_assoc, mul-le-mul_left, zero-add, mul-one, mul-add, add-one, arith, length-drop}
-use Rattle.std.specs.List.{range_with_len, AllByRecursion as All}
+use Rattle.std.specs.List.{range_with_len, AllByRecursion as Every}
 use Rattle.std.proofs.lemmas.List.{take_all, get_or-drop}
 use Rattle.std.proofs.lemmas.List.Sums.{sum_by_more}
 use Rattle.std.proofs.lemmas.List.FromFn.{length-range_with_len, get_or-range_with_len, length-map-range_with_len, get_or-map-range_with_len}
@@ -49,7 +49,7 @@ pub target_le : (q : Place) → worth (λ _. 0) 1 q ≤ 1
 target_le (State s) = omega arith
 target_le (Ends q) = cond_both (is_target q) 1 0 (λ x. x ≤ 1) (λ _. omega arith) (λ _. omega arith)
 
-scaled : (d : ℕ) (p : Process) (f : Place → ℕ) → Formed d p → ((q : Place) → f q ≤ 1) → All (λ ms. mean f ms ≤ 65536) (joined p)
+scaled : (d : ℕ) (p : Process) (f : Place → ℕ) → Formed d p → ((q : Place) → f q ≤ 1) → Every (λ ms. mean f ms ≤ 65536) (joined p)
 scaled d p f h l =
     All-weaker (OptionFormed d (length p)) (λ ms. mean f ms ≤ 65536) (λ ms o. omega (arith, mean_le f l ms, o.sum, h.scale_limit)) (joined p) (all_joined d (length p) p h.each)
 
@@ -68,7 +68,7 @@ flow_more f os y o h l = rw add-one (go os y o h l)
     go (ms ∷ os) (v ∷ y) zero h l = omega (arith, flow-none f y)
     go (ms ∷ os) (v ∷ y) (suc o) (suc-le-suc h) (suc-le-suc l) = omega (arith, go os y o h l)
 
-flow_bound : (f : List Move → ℕ) (os : List (List Move)) (y : List ℕ) (o : ℕ) → All (λ ms. f ms ≤ 65536) os → All (λ v. v ≤ 2 ^ 32) y → flow f y (take o os) ≤ 2 ^ 48 * o
+flow_bound : (f : List Move → ℕ) (os : List (List Move)) (y : List ℕ) (o : ℕ) → Every (λ ms. f ms ≤ 65536) os → Every (λ v. v ≤ 2 ^ 32) y → flow f y (take o os) ≤ 2 ^ 48 * o
 flow_bound f os y zero a b = omega (arith, flow-none f y)
 flow_bound f [] y (suc o) a b = omega (arith, flow-none f y)
 flow_bound f (ms ∷ os) [] (suc o) a b = omega arith
@@ -78,7 +78,7 @@ flow_bound f (ms ∷ os) (v ∷ y) (suc o) a b =
 -- sums over the first options of a process, by state and place in the state
 module _ (d : ℕ) (p : Process) (formed : Formed d p) (f : Place → ℕ) (one : (q : Place) → f q ≤ 1) (y : List ℕ)
     (fits : (i : ℕ) → get_or y i 0 < 2 ^ 32) where
-  small : All (λ v. v ≤ 2 ^ 32) y
+  small : Every (λ v. v ≤ 2 ^ 32) y
   small = All-from_get_or (λ v. v ≤ 2 ^ 32) y 0 (λ i _. omega (arith, fits i))
 
   pub flow-limit : flow (mean f) y (joined p) ≤ 2 ^ 62

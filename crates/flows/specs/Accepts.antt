@@ -1,6 +1,6 @@
 -- When a vector with one entry for each option is accepted, and what its refusals name.
 use Rattle.std.specs.Prelude.{◌≡◌, ℕ, ◌<◌, ◌≤◌, List, length, Err, Result}
-use Rattle.std.specs.List.{AllByRecursion as All}
+use Rattle.std.specs.List.{AllByRecursion as Every}
 use Rattle.refusal.specs.Tellings.{Telling, at_vector}
 use Rattle.refusal.specs.Tests.{FirstFailure}
 use Rattle.process.specs.Process.{Process, joined}
@@ -12,7 +12,7 @@ use Rattle.kinds.specs.FlowKinds.{BalancedAt}
 -- as many entries as options, each within its limit, and the inequality at every state
 pub record Accepted (k : FlowKind) (d : ℕ) (p : Process) (y : List ℕ) : Type 0 where
   pub one_each : length y ≡ length (joined p)
-  pub limited : All (λ x. x ≤ 1073741824) y
+  pub limited : Every (λ x. x ≤ 1073741824) y
   pub balance : (s : ℕ) → s < length p → BalancedAt k d p y s
 
 -- first means first: the entry that 42 names, and the state that 43 names, fails, and none before it does

@@ -1,7 +1,7 @@
 -- Every ladder that is made is well formed.
 use Rattle.std.specs.Prelude.{◌≡◌, ℕ, zero, suc, ◌+◌, ◌*◌, ◌<◌, ◌≤◌, true, [], ◌∷◌, map, length, is_ok, nat_lt, refl}
 use Rattle.std.proofs.Common.{arith}
-use Rattle.std.specs.List.{range_with_len, AllByRecursion as All}
+use Rattle.std.specs.List.{range_with_len, AllByRecursion as Every}
 use Rattle.std.proofs.lemmas.List.FromFn.{length-map-range_with_len}
 use Rattle.std.proofs.lemmas.Bool.{leb-true, ltb-true, cond_both}
 use Rattle.refusal.specs.Tellings.{at_ladder}
@@ -32,7 +32,7 @@ sound t forty twenty e =
       twenty_fits = each.1.0;
     }
 
-all_counting : {X : Type 0} (P : X → Type 0) (f : ℕ → X) (a n : ℕ) → ((i : ℕ) → i < a + n → P (f i)) → All P (map f (range_with_len a n))
+all_counting : {X : Type 0} (P : X → Type 0) (f : ℕ → X) (a n : ℕ) → ((i : ℕ) → i < a + n → P (f i)) → Every P (map f (range_with_len a n))
 all_counting P f a zero h = tt
 all_counting P f a (suc n) h = (h a (omega arith), all_counting P f (a + 1) n (λ i l. h i (omega arith)))
 

@@ -1,6 +1,6 @@
 -- The digits that are read as a number are those that `decimal` writes of it.
 use Rattle.std.proofs.Common.{◌≡◌, ℕ, ◌+◌, ◌-◌, ◌*◌, ◌^◌, ◌<◌, ◌≤◌, true, false, ◌&&◌, ◌||◌, eqb, ltb, leb, List, [], ◌∷◌, length, get_or, is_some, Some, None, decimal, sym, refl, ap, ◌∙◌, inl, inr, arith, rules}
-use Rattle.std.specs.List.{prefix_len, AllByRecursion as All}
+use Rattle.std.specs.List.{prefix_len, AllByRecursion as Every}
 use Rattle.std.proofs.lemmas.Str.Parse.{IsNumeralModel, numerals_by_fold}
 use Rattle.std.proofs.lemmas.Fmt.{digits_decimal, digits_value-decimal, decimal-digits_value, decimal_digit, decimal_nonempty, first_decimal}
 use Rattle.std.proofs.ByRecursion.{All-weaker}
@@ -10,7 +10,7 @@ use Rattle.lines.specs.Bytes.{is_letter, is_digit}
 use Rattle.lines.specs.Lines.{inside, digits_on, number_of, named}
 
 abbrev Digits : List ℕ → Type 0
-Digits ds = All (λ c. is_digit c ≡ true) ds
+Digits ds = Every (λ c. is_digit c ≡ true) ds
 
 -- the number that digits write after n
 abbrev read_on : ℕ → List ℕ → ℕ
@@ -95,7 +95,7 @@ decimal_no_name n h = no_name (decimal n) (digits_decimal own n (omega arith))
 pub above_inside : (b : ℕ) → 10 < b → inside b ≡ true
 above_inside b h = not_from_false (eqb b 10) (ne_eqb b 10 (omega arith))
 
-pub decimal_inside : (n : ℕ) → n < 2 ^ 32 → All (λ b. inside b ≡ true) (decimal n)
+pub decimal_inside : (n : ℕ) → n < 2 ^ 32 → Every (λ b. inside b ≡ true) (decimal n)
 decimal_inside n h =
     All-weaker (λ c. is_digit c ≡ true) _
     (λ c d. above_inside c (omega (arith, leb-true 48 c (and_parts (leb 48 c) (leb c 57) d).0)))

@@ -1,6 +1,6 @@
 -- A line is read exactly as it is properly written.
 use Rattle.std.proofs.Common.{◌≡◌, ℕ, ◌+◌, ◌-◌, ◌<◌, true, false, ◌&&◌, eqb, ltb, leb, List, [], ◌∷◌, ◌++◌, length, get_or, take, drop, is_some, is_ok, Some, None, Ok, Option, sym, refl, ap, ◌∙◌, subst, inl, inr, arith, length-append, take-append-drop}
-use Rattle.std.specs.List.{prefix_len, AllByRecursion as All}
+use Rattle.std.specs.List.{prefix_len, AllByRecursion as Every}
 use Rattle.std.proofs.ByRecursion.{All-weaker, All-append}
 use Rattle.std.proofs.lemmas.List.{take_more, take_all, take_at, length-take-le, drop_more, drop_at, drop-drop, get_or_at, append_assoc}
 use Rattle.std.proofs.lemmas.List.Sums.{prefix_len-le-length}
@@ -27,7 +27,7 @@ name_named bs h =
     and_from (between 1 8 (length bs)) _ (says-between 1 8 (length bs) h.some h.few)
     (eq-eqb (prefix_len is_letter bs) (length bs) (leading_all is_letter bs h.letters))
 
-name_inside : (bs : List ℕ) → Name bs → All (λ b. inside b ≡ true) bs
+name_inside : (bs : List ℕ) → Name bs → Every (λ b. inside b ≡ true) bs
 name_inside bs h =
     All-weaker (λ b. is_letter b ≡ true) _
     (λ b l. above_inside b (omega (arith, leb-true 97 b (and_parts (leb 97 b) (leb b 122) l).0)))
@@ -43,7 +43,7 @@ written_body (says_word key v) = refl
 written_body (says_number key v n) = refl
 
 -- a proper line has no newline but its last byte
-pub free_written : (s : Said) → Proper s → All (λ b. inside b ≡ true) (body s)
+pub free_written : (s : Said) → Proper s → Every (λ b. inside b ≡ true) (body s)
 free_written (says_word key v) h = All-append _ key (61 ∷ v) (name_inside key h.0) (refl, name_inside v h.1)
 free_written (says_number key v n) h =
     All-append _ key (61 ∷ v) (name_inside key h.0) (refl, rw h.1 (decimal_inside n h.2))

@@ -1,6 +1,6 @@
 -- How a line is written, and that reading takes exactly the lines that are.
 use Rattle.std.specs.Prelude.{◌≡◌, ℕ, ◌^◌, ◌<◌, ◌≤◌, true, List, [], ◌∷◌, ◌++◌, length, Ok, decimal, Result}
-use Rattle.std.specs.List.{AllByRecursion as All}
+use Rattle.std.specs.List.{AllByRecursion as Every}
 use Rattle.refusal.specs.Tellings.{Telling}
 use Rattle.lines.specs.Bytes.{is_letter}
 use Rattle.lines.specs.Lines.{Said, says_word, says_number, Reading, reading}
@@ -17,7 +17,7 @@ written (says_number key v n) = line_of key v
 pub record Name (bs : List ℕ) : Type 0 where
   pub some : 1 ≤ length bs
   pub few : length bs ≤ 8
-  pub letters : All (λ b. is_letter b ≡ true) bs
+  pub letters : Every (λ b. is_letter b ≡ true) bs
 
 -- keys and words are names, and digits those of a 32-bit number
 abbrev pub Proper : Said → Type 0

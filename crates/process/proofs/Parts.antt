@@ -1,7 +1,7 @@
 -- What stays when moves are sent elsewhere: the shape, the sums of weights and the form; and so of a kept part.
 use Rattle.std.proofs.Common.{◌≡◌, ℕ, zero, suc, ◌+◌, Bool, List, [], ◌∷◌, map, length, get_or, take, refl, ap, ◌∙◌, inl, inr, arith, length-append}
 use Rattle.std.specs.Option.{option_map}
-use Rattle.std.specs.List.{AllByRecursion as All, slice_get}
+use Rattle.std.specs.List.{AllByRecursion as Every, slice_get}
 use Rattle.std.proofs.ByRecursion.{All-map, All-weaker}
 use Rattle.std.proofs.lemmas.List.{length-map}
 use Rattle.std.proofs.lemmas.Bool.{cases_Bool}
@@ -108,7 +108,7 @@ resent-moves g (os ∷ p) =
 
 -- the form
 resent-each : (g : ℕ → Place → Place) (d n : ℕ) → ((s : ℕ) (q : Place) → Within n q → Within n (g s q))
-    → (p : Process) → All (StateFormed d n) p → All (StateFormed d n) (resent g p)
+    → (p : Process) → Every (StateFormed d n) p → Every (StateFormed d n) (resent g p)
 resent-each g d n inside [] f = tt
 resent-each g d n inside (os ∷ p) f =
     (sent-state (g 0) d n n (inside 0) os f.0, resent-each (λ s. g (suc s)) d n (λ s. inside (suc s)) p f.1)

@@ -1,6 +1,6 @@
 -- Walks over a process: what its queries answer once they are made total, and one turn of a sum over moves.
 use Rattle.std.proofs.Common.{◌≡◌, ℕ, zero, suc, ◌+◌, ◌*◌, ◌^◌, ◌<◌, ◌≤◌, List, [], ◌∷◌, ◌++◌, length, get_or, take, unwrap_or, sym, ap, ◌∙◌, inl, inr, suc-le-suc, le_refl, add_assoc, zero-add, arith, length-append}
-use Rattle.std.specs.List.{AllByRecursion as All}
+use Rattle.std.specs.List.{AllByRecursion as Every}
 use Rattle.std.proofs.lemmas.Nat.{mul-le}
 use Rattle.std.proofs.ByRecursion.{All-get_or, All-append}
 use Rattle.std.proofs.lemmas.List.{take_more, take_all, get_or_append_left, get_or-append-add, get_or_past}
@@ -41,7 +41,7 @@ pub span_end : {A : Type 0} (p : List (List A)) (s : ℕ) → s < length p → l
     → length (joined (take s p)) + length (get_or p s []) ≡ length (joined p)
 span_end p s h l = sym (length-joined_more p s h) ∙ ap (λ q. length (joined q)) (take_all (s + 1) p l)
 
-pub all_joined : (d n : ℕ) (p : Process) → All (StateFormed d n) p → All (OptionFormed d n) (joined p)
+pub all_joined : (d n : ℕ) (p : Process) → Every (StateFormed d n) p → Every (OptionFormed d n) (joined p)
 all_joined d n [] h = tt
 all_joined d n (os ∷ p) h = All-append (OptionFormed d n) os (joined p) h.0.each (all_joined d n p h.1)
 
@@ -111,7 +111,7 @@ module _ (d : ℕ) (p : Process) (formed : Formed d p) where
             )
       ]
 
-  pub places-within : (s o : ℕ) → All (λ m. Within (length p) m.place) (moves_of p s o)
+  pub places-within : (s o : ℕ) → Every (λ m. Within (length p) m.place) (moves_of p s o)
   places-within s o =
       elim (cases_lt s (length p)) [
         | inl h ↦

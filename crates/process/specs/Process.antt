@@ -1,6 +1,6 @@
 -- What a model means: a decision process, as a list of states, each a list of options, each a list of moves.
 use Rattle.std.specs.Prelude.{◌≡◌, ℕ, ◌+◌, ◌<◌, ◌≤◌, List, [], ◌∷◌, ◌++◌, length}
-use Rattle.std.specs.List.{AllByRecursion as All}
+use Rattle.std.specs.List.{AllByRecursion as Every}
 use Rattle.process.specs.declared.place.Place.{Place}
 use Rattle.process.specs.declared.place.Place.TheVariants.{State, End as Ends}
 use Rattle.process.specs.declared.place.Move.{Move}
@@ -26,11 +26,11 @@ Within n (Ends q) = Unit {0}
 pub record OptionFormed (d n : ℕ) (ms : List Move) : Type 0 where
   pub some_move : 1 ≤ length ms
   pub sum : weights ms ≡ d
-  pub places : All (λ m. Within n m.place) ms
+  pub places : Every (λ m. Within n m.place) ms
 
 pub record StateFormed (d n : ℕ) (os : List (List Move)) : Type 0 where
   pub some_option : 1 ≤ length os
-  pub each : All (OptionFormed d n) os
+  pub each : Every (OptionFormed d n) os
 
 -- a process that is well formed at scale d
 pub record Formed (d : ℕ) (p : Process) : Type 0 where
@@ -40,4 +40,4 @@ pub record Formed (d : ℕ) (p : Process) : Type 0 where
   pub state_limit : length p ≤ 4096
   pub option_limit : length (joined p) ≤ 16384
   pub move_limit : length (joined (joined p)) ≤ 65536
-  pub each : All (StateFormed d (length p)) p
+  pub each : Every (StateFormed d (length p)) p

@@ -1,6 +1,6 @@
 -- Searches for the first that fails, what it says that none was found, and tests one after another.
 use Rattle.std.proofs.Common.{◌≡◌, ℕ, zero, suc, ◌+◌, ◌<◌, ◌≤◌, Bool, true, false, leb, List, [], ◌∷◌, length, get_or, drop, is_some, is_ok, Some, None, Ok, Err, Decides, Option, Result, sym, refl, ap, ◌∙◌, inl, inr, suc-le-suc, arith}
-use Rattle.std.specs.List.{AllByRecursion as All}
+use Rattle.std.specs.List.{AllByRecursion as Every}
 use Rattle.std.proofs.ByRecursion.{All-weaker}
 use Rattle.std.proofs.lemmas.List.{at_drop_more, at_drop_all}
 use Rattle.std.proofs.lemmas.Bool.{cases_Bool, leb-true, le-leb, and_parts, and_from, true≢false, false≢true, both_ways, cond-true, cond-false}
@@ -17,7 +17,7 @@ says-between low high n a b = and_from (leb low n) (leb n high) (le-leb low n a)
 
 -- a search finds nothing exactly when all pass
 module _ {A : Type 0} (ok : A → Bool) where
-  pub all_pass : (n : ℕ) (xs : List A) → first_bad ok n xs ≡ None → All (λ x. ok x ≡ true) xs
+  pub all_pass : (n : ℕ) (xs : List A) → first_bad ok n xs ≡ None → Every (λ x. ok x ≡ true) xs
   all_pass n [] e = tt
   all_pass n (x ∷ xs) e =
       elim (cases_Bool (ok x)) [
@@ -25,16 +25,16 @@ module _ {A : Type 0} (ok : A → Bool) where
         | inr f ↦ absurd (true≢false (ap is_some (rw f at e)))
       ]
 
-  pub none-fails : (n : ℕ) (xs : List A) → All (λ x. ok x ≡ true) xs → first_bad ok n xs ≡ None
+  pub none-fails : (n : ℕ) (xs : List A) → Every (λ x. ok x ≡ true) xs → first_bad ok n xs ≡ None
   none-fails n [] h = refl
   none-fails n (x ∷ xs) h = rw h.0 (none-fails (n + 1) xs h.1)
 
 -- the same of what the test decides, and that a search finds the first
 module _ {A : Type 0} (ok : A → Bool) (P : A → Type 0) (each : (x : A) → Decides (ok x) (P x)) where
-  pub all_hold : (n : ℕ) (xs : List A) → first_bad ok n xs ≡ None → All P xs
+  pub all_hold : (n : ℕ) (xs : List A) → first_bad ok n xs ≡ None → Every P xs
   all_hold n xs e = All-weaker (λ x. ok x ≡ true) P (λ x. (each x).0) xs (all_pass ok n xs e)
 
-  pub hold_all : (n : ℕ) (xs : List A) → All P xs → first_bad ok n xs ≡ None
+  pub hold_all : (n : ℕ) (xs : List A) → Every P xs → first_bad ok n xs ≡ None
   hold_all n xs h = none-fails ok n xs (All-weaker P (λ x. ok x ≡ true) (λ x. (each x).1) xs h)
 
   pub bad_first : (d : A) (n i : ℕ) (xs : List A) → first_bad ok n xs ≡ Some i

@@ -2,7 +2,7 @@
 
 ghost use Rattle.std.specs.Prelude.{◌≡◌, Decides};
 ghost use Rattle.refusal.specs.Tellings.{number_of, layer_of, place_of, same_telling, tell};
-ghost use Rattle.refusal.specs.declared.reason.Refusal.{Refusal as Any};
+ghost use Rattle.refusal.specs.declared.reason.Refusal.{Refusal as AnyRefusal};
 ghost use Rattle.std.specs.Cmp.Rules.{comparing};
 ghost use Rattle.std.proofs.Common.{rules};
 ghost use Rattle.std.specs.Cmp as Keys;
@@ -17,7 +17,7 @@ impl Refusal {
     // The number; with the layer and the place it tells a refusal from every other.
     pub fn number(self) -> u8
         ensures value { result ≡ number_of self }
-        ensures apart { (other : Any) → tell other ≡ tell self → other ≡ self }
+        ensures apart { (other : AnyRefusal) → tell other ≡ tell self → other ≡ self }
     {
         match self {
             Refusal::TextLine(_) => 11,

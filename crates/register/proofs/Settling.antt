@@ -1,8 +1,7 @@
 -- The standing that a delay hands back: settled exactly where it was accepted.
-use Rattle.std.proofs.Common.{◌≡◌, Bool, is_ok, Ok, Err, Result, refl, ap, ◌∙◌, ap₂}
+use Rattle.std.proofs.Common.{◌≡◌, Bool, is_ok, Ok, Err, Result, refl, ◌∙◌, ap₂}
 use Rattle.refusal.specs.Tellings.{Telling}
 use Rattle.sheets.specs.declared.figures.Sheet.{Sheet}
-use Rattle.runs.specs.Acts.{Standing}
 use Rattle.runs.specs.Steps.{replied}
 use Rattle.runs.proofs.Leading.{passes_same}
 use Rattle.process.specs.declared.Model.{Ghosts}

@@ -1,6 +1,6 @@
 -- A run part of the way: what is left of the calls gives the rest.
-use Rattle.std.proofs.Common.{◌≡◌, ℕ, ◌+◌, ◌<◌, ◌≤◌, min, Bool, true, false, cond, ◌⊎◌, List, [], ◌∷◌, ◌++◌, map, length, get_or, take, drop, set, sym, refl, ap, ◌∙◌, subst, inl, inr, append_assoc, append-nil, length-set}
-use Rattle.std.proofs.lemmas.List.{at_drop_more, at_drop_all, map_push, take_more_set, drop-set, take_all, drop_all}
+use Rattle.std.proofs.Common.{◌≡◌, ℕ, ◌+◌, ◌<◌, ◌≤◌, List, [], ◌∷◌, ◌++◌, map, length, get_or, take, drop, set, sym, refl, ap, ◌∙◌, subst, append_assoc, append-nil, length-set}
+use Rattle.std.proofs.lemmas.List.{at_drop_more, map_push, take_more_set, drop-set, take_all, drop_all}
 use Rattle.process.specs.Process.{Process}
 use Rattle.replay.specs.declared.call.Call.{Call}
 use Rattle.replay.specs.declared.call.Answer.{Answer}

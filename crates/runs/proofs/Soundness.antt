@@ -1,5 +1,5 @@
 -- The bounds hold along every list of calls.
-use Rattle.std.proofs.Common.{◌≡◌, ℕ, ◌*◌, ◌^◌, ◌<◌, ◌≤◌, min, max, Bool, true, false, cond, ltb, List, [], ◌∷◌, length, is_some, is_ok, Some, None, Ok, Err, sum, Option, Result, sym, refl, ap, ◌∙◌, subst, inl, inr, mul-le-mul_left, arith}
+use Rattle.std.proofs.Common.{◌≡◌, ℕ, min, max, Bool, true, false, cond, ltb, List, [], ◌∷◌, length, is_some, is_ok, Some, None, Ok, Err, sum, Option, Result, sym, refl, ap, ◌∙◌, subst, inl, inr, mul-le-mul_left, arith}
 use native.Mathlib.Nat.{min-eq_left, min-eq_right, max-eq_left, max-eq_right}
 use Rattle.std.proofs.lemmas.Bool.{cases_lt, both_ways}
 use Rattle.refusal.specs.Tellings.{Telling, at_register}
@@ -22,9 +22,9 @@ use Rattle.flows.specs.Verdicts.{flow_of, hope_verdict, risk_verdict}
 use Rattle.flows.proofs.Accepting.{hope-sound, risk-sound}
 use Rattle.sheets.specs.declared.figures.Bracket.{Bracket}
 use Rattle.sheets.specs.declared.figures.Sheet.{Sheet}
-use Rattle.sheets.specs.Brackets.{first_bracket, lower_cap, higher_floor, given_delay, better_hope, with_hope, higher_hope, lower_risk}
+use Rattle.sheets.specs.Brackets.{first_bracket, lower_cap, higher_floor, given_delay, better_hope, with_hope, lower_risk}
 use Rattle.runs.specs.Acts.{Vector, cap, delay, floor, hope, risk, Act, takes, asks_least, asks_most, Standing, first_standing}
-use Rattle.runs.specs.Steps.{meets_hope, meets_risk, with_bound, finding, unless_full, counted, sheet_after, skips, settles, after, final}
+use Rattle.runs.specs.Steps.{meets_hope, meets_risk, with_bound, finding, unless_full, counted, sheet_after, after, final}
 use Rattle.runs.specs.Holds.{Q, BoundsHold}
 
 -- what the delay that settled a register carries

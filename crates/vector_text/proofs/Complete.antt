@@ -1,6 +1,6 @@
 -- The lines of a vector that the list can hold are read to the end, and leave its entries in the list.
 use Rattle.std.proofs.Common.{◌≡◌, ℕ, ◌+◌, ◌-◌, ◌^◌, ◌<◌, ◌≤◌, true, false, ◌||◌, ltb, List, [], ◌∷◌, ◌++◌, map, length, drop, Ok, sym, refl, ap, ◌∙◌, append_assoc, append-nil, arith}
-use Rattle.std.specs.List.{AllByRecursion as All}
+use Rattle.std.specs.List.{AllByRecursion as Every}
 use Rattle.std.proofs.lemmas.List.{length_push}
 use Rattle.std.proofs.lemmas.Bool.{cond-true, false≢true, lt-ltb}
 use Rattle.encoding.specs.Lists.{Lists, lists}
@@ -63,7 +63,7 @@ pub record Ends (v : Vector) (at : ℕ) (ls : List (List ℕ)) (k : Kind) (count
   pub count_is : state.count ≡ count
   pub passes : pass next ended v at ls ≡ Ok (halt state far rest)
 
-entries-pass : (es : List ℕ) (v : Vector) (at : ℕ) (rest : List (List ℕ)) → inside v ≡ true → All (λ n. n < 2 ^ 32) es
+entries-pass : (es : List ℕ) (v : Vector) (at : ℕ) (rest : List (List ℕ)) → inside v ≡ true → Every (λ n. n < 2 ^ 32) es
     → v.count + length es ≤ v.room
     → Ends v at (map entry_line es ++ (line item.End ∷ rest)) v.kind (v.count + length es) (at + (length es + 1)) rest
 entries-pass [] v at rest i h fits =
@@ -90,7 +90,7 @@ entries-pass (e ∷ es) v at rest i h fits =
     }
 
 entries_fill : (A B old es xs : List ℕ) (v : Vector) (at : ℕ) (rest : List (List ℕ)) → inside v ≡ true
-    → All (λ n. n < 2 ^ 32) es → v.count + length es ≤ v.room → v.room ≡ length old → v.count ≡ length xs
+    → Every (λ n. n < 2 ^ 32) es → v.count + length es ≤ v.room → v.room ≡ length old → v.count ≡ length xs
     → filled next ended puts v at (map entry_line es ++ (line item.End ∷ rest)) (lists A B (over xs old))
     ≡ lists A B (over (xs ++ es) old)
 entries_fill A B old [] xs v at rest i h fits room count =
@@ -111,7 +111,7 @@ entries_fill A B old (e ∷ es) xs v at rest i h fits room count =
 abbrev pub begun : Kind → ℕ → Vector
 begun k room = record { phase = phase.Vector; kind = k; room = room; count = 0; entry = 0 }
 
-module _ (k : Kind) (es : List ℕ) (first : ℕ) (rest : List (List ℕ)) (h : All (λ n. n < 2 ^ 32) es) where
+module _ (k : Kind) (es : List ℕ) (first : ℕ) (rest : List (List ℕ)) (h : Every (λ n. n < 2 ^ 32) es) where
   pub vector_passes : (room : ℕ) → length es ≤ room
       → Ends (beginning room) first (vector_lines k es rest) k (length es) (first + (length es + 2)) rest
   vector_passes room fits =

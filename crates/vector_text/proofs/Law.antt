@@ -1,6 +1,6 @@
 -- A vector is read exactly when the text begins with one that the list can hold.
 use Rattle.std.proofs.Common.{◌≡◌, ℕ, ◌+◌, ◌^◌, ◌<◌, ◌≤◌, List, [], ◌++◌, length, drop, is_ok, Ok, Err, Result, sym, refl, ap, ◌∙◌}
-use Rattle.std.specs.List.{flat_map as written_all, AllByRecursion as All}
+use Rattle.std.specs.List.{flat_map as written_all, AllByRecursion as Every}
 use Rattle.std.proofs.lemmas.Bool.{cond-true, cond-false, false≢true}
 use Rattle.refusal.specs.Tellings.{Telling}
 use Rattle.encoding.specs.Lists.{Lists, lists}
@@ -32,7 +32,7 @@ module _ (first : ℕ) (t old : List ℕ) where
   l = lists [] [] old
 
   spells : (x : Header) → answer first t l ≡ Ok x
-      → (k : Kind) × (es : List ℕ) × (rest : List ℕ) × All (λ n. n < 2 ^ 32) es × (length es ≤ length old)
+      → (k : Kind) × (es : List ℕ) × (rest : List ℕ) × Every (λ n. n < 2 ^ 32) es × (length es ≤ length old)
       × (t ≡ render k es ++ rest)
   spells x e =
       let h = headed_ok (passed first t l) x e in
@@ -45,7 +45,7 @@ module _ (first : ℕ) (t old : List ℕ) where
         sym (lines-whole t) ∙ ap (written_all (λ l. l)) q.5 ∙ whole_vector q.0 q.1 q.2,
       )
 
-  module _ (k : Kind) (es rest : List ℕ) (h : All (λ n. n < 2 ^ 32) es) (fits : length es ≤ length old)
+  module _ (k : Kind) (es rest : List ℕ) (h : Every (λ n. n < 2 ^ 32) es) (fits : length es ≤ length old)
       (is : t ≡ render k es ++ rest) where
     cut : lines t ≡ vector_lines k es (lines rest)
     cut = ap lines is ∙ lines_vector k es rest h

@@ -1,6 +1,6 @@
 -- The items of a vector text and their lines: what each says, and the text cut into them.
 use Rattle.std.proofs.Common.{◌≡◌, ℕ, ◌^◌, ◌<◌, true, List, [], ◌∷◌, ◌++◌, map, codes, decimal, sym, refl, ap, ◌∙◌, subst, append_assoc, arith, length-append}
-use Rattle.std.specs.List.{flat_map as written_all, AllByRecursion as All}
+use Rattle.std.specs.List.{flat_map as written_all, AllByRecursion as Every}
 use Rattle.std.specs.Str.{bytes_eq}
 use Rattle.std.proofs.lemmas.Slice.Eq.{bytes_eq-Decides}
 use Rattle.std.proofs.lemmas.Bool.{cond_both, and_parts}
@@ -107,7 +107,7 @@ lines_line i rest h =
     lines_cut (line i ++ rest) (omega arith)
     ∙ (λ k. first-written (says i) rest proper k ∷ lines (after-written (says i) rest proper k))
 
-lines-entries : (es rest : List ℕ) → All (λ n. n < 2 ^ 32) es
+lines-entries : (es rest : List ℕ) → Every (λ n. n < 2 ^ 32) es
     → lines (written_all entry_line es ++ rest) ≡ map entry_line es ++ lines rest
 lines-entries [] rest h = refl
 lines-entries (e ∷ es) rest h =
@@ -125,7 +125,7 @@ render-rest k es rest =
     append_assoc (line (item.Vector k)) (written_all entry_line es ++ line item.End) rest
     ∙ ap (λ t. line (item.Vector k) ++ t) (append_assoc (written_all entry_line es) (line item.End) rest)
 
-pub lines_vector : (k : Kind) (es rest : List ℕ) → All (λ n. n < 2 ^ 32) es
+pub lines_vector : (k : Kind) (es rest : List ℕ) → Every (λ n. n < 2 ^ 32) es
     → lines (render k es ++ rest) ≡ vector_lines k es (lines rest)
 lines_vector k es rest h =
     ap lines (render-rest k es rest)

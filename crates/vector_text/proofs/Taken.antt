@@ -1,6 +1,6 @@
 -- Lines that are read are those of a vector that the list can hold.
 use Rattle.std.proofs.Common.{◌≡◌, ℕ, ◌+◌, ◌^◌, ◌<◌, ◌≤◌, Bool, true, false, cond, ◌||◌, ltb, List, [], ◌∷◌, ◌++◌, map, length, is_ok, Some, None, Ok, Err, Option, Result, sym, refl, ap, ◌∙◌, subst, inl, inr, arith}
-use Rattle.std.specs.List.{AllByRecursion as All}
+use Rattle.std.specs.List.{AllByRecursion as Every}
 use Rattle.std.proofs.lemmas.Bool.{cond-true, cond-false, cases_Bool, false≢true, ltb-true}
 use Rattle.refusal.specs.Tellings.{Telling, at_text}
 use Rattle.lines.specs.Lines.{Said, parsed}
@@ -49,7 +49,7 @@ module _ (v : Vector) (at : ℕ) (l : List ℕ) (h : Halt Vector) (g : Vector �
 -- entries and the end
 abbrev Tail : ℕ → ℕ → List (List ℕ) → Type 0
 Tail count room ls =
-    (es : List ℕ) × (rest : List (List ℕ)) × All (λ n. n < 2 ^ 32) es × (count + length es ≤ room)
+    (es : List ℕ) × (rest : List (List ℕ)) × Every (λ n. n < 2 ^ 32) es × (count + length es ≤ room)
     × (ls ≡ map entry_line es ++ (line item.End ∷ rest))
 
 begun_phase : (p : Phase) → (at_phase p phase.Vector || at_phase p phase.Entry) ≡ true → at_phase p phase.Start ≡ false
@@ -96,7 +96,7 @@ entries-taken v at (l ∷ ls) h i few e =
 -- the whole vector
 abbrev pub Whole : ℕ → List (List ℕ) → Type 0
 Whole room ls =
-    (k : Kind) × (es : List ℕ) × (rest : List (List ℕ)) × All (λ n. n < 2 ^ 32) es × (length es ≤ room)
+    (k : Kind) × (es : List ℕ) × (rest : List (List ℕ)) × Every (λ n. n < 2 ^ 32) es × (length es ≤ room)
     × (ls ≡ vector_lines k es rest)
 
 first_taken : (room at : ℕ) (l : List ℕ) (ls : List (List ℕ)) (h : Halt Vector) (i : Item) → l ≡ line i → ProperItem i

@@ -1,6 +1,6 @@
 -- Vector text in terms of vectors: how a vector is spelled, and that exactly the spelled vectors are read.
 use Rattle.std.specs.Prelude.{◌≡◌, ℕ, ◌+◌, ◌^◌, ◌<◌, ◌≤◌, false, List, ◌++◌, length, is_ok, Ok, codes, decimal, Result}
-use Rattle.std.specs.List.{flat_map as written_all, AllByRecursion as All}
+use Rattle.std.specs.List.{flat_map as written_all, AllByRecursion as Every}
 use Rattle.refusal.specs.Tellings.{Telling}
 use Rattle.lines.specs.Lines.{says_word, says_number}
 use Rattle.lines.specs.Writing.{written}
@@ -34,8 +34,8 @@ header_of first k es rest = record { kind = k; count = length es; at = first + (
 -- what the list held past them, and what follows it is handed on. A text that is refused leaves the list as it was.
 pub record ReadAsSpelled (first : ℕ) (text old : List ℕ) (r : Result Header Telling) (new : List ℕ) : Type 0 where
   pub read : (h : Header) → r ≡ Ok h
-      → (k : Kind) × (es : List ℕ) × (rest : List ℕ) × All (λ n. n < 2 ^ 32) es × (length es ≤ length old)
+      → (k : Kind) × (es : List ℕ) × (rest : List ℕ) × Every (λ n. n < 2 ^ 32) es × (length es ≤ length old)
       × (text ≡ render k es ++ rest)
-  pub spelled : (k : Kind) (es rest : List ℕ) → All (λ n. n < 2 ^ 32) es → length es ≤ length old
+  pub spelled : (k : Kind) (es rest : List ℕ) → Every (λ n. n < 2 ^ 32) es → length es ≤ length old
       → text ≡ render k es ++ rest → (r ≡ Ok (header_of first k es rest)) × (new ≡ over es old)
   pub refused : is_ok r ≡ false → new ≡ old

@@ -1,7 +1,7 @@
 -- A verdict is acceptance exactly where the inequalities hold, its bound is the first entry, and what it names is the
 -- first that fails.
 use Rattle.std.proofs.Common.{◌≡◌, ℕ, zero, suc, ◌+◌, ◌*◌, ◌<◌, ◌≤◌, Bool, true, eqb, leb, List, [], ◌∷◌, length, get_or, take, is_ok, Some, None, Ok, Err, Decides, Option, Result, sym, refl, ap, ◌∙◌, subst, suc-le-suc, add-zero, zero-add, arith, length-append}
-use Rattle.std.specs.List.{AllByRecursion as All}
+use Rattle.std.specs.List.{AllByRecursion as Every}
 use Rattle.std.proofs.ByRecursion.{All-get_or}
 use Rattle.std.proofs.lemmas.Bool.{leb-true, le-leb, eqb-true, eq-eqb}
 use Rattle.refusal.specs.declared.reason.Refusal.{Refusal}
@@ -35,7 +35,7 @@ holds_decides Delay d n z s ms =
 -- a search through all options
 module _ (ok : ℕ → List Move → Bool) (P : ℕ → List Move → Type 0)
     (each : (s : ℕ) (ms : List Move) → Decides (ok s ms) (P s ms)) where
-  none_failing : (s n : ℕ) (p : Process) → first_failing ok s n p ≡ None → (i : ℕ) → i < length p → All (P (s + i)) (get_or p i [])
+  none_failing : (s n : ℕ) (p : Process) → first_failing ok s n p ≡ None → (i : ℕ) → i < length p → Every (P (s + i)) (get_or p i [])
   none_failing s n [] e i h = elim h [ ]
   none_failing s n (os ∷ p) e zero h =
       rw add-zero
@@ -47,7 +47,7 @@ module _ (ok : ℕ → List Move → Bool) (P : ℕ → List Move → Type 0)
       (none_failing (s + 1) (n + length os) p
       (or_else_none (first_bad (ok s) n os) (first_failing ok (s + 1) (n + length os) p) e).1 i h)
 
-  all_fair : (s n : ℕ) (p : Process) → ((i : ℕ) → i < length p → All (P (s + i)) (get_or p i [])) → first_failing ok s n p ≡ None
+  all_fair : (s n : ℕ) (p : Process) → ((i : ℕ) → i < length p → Every (P (s + i)) (get_or p i [])) → first_failing ok s n p ≡ None
   all_fair s n [] h = refl
   all_fair s n (os ∷ p) h =
       none-or_else (first_bad (ok s) n os) (first_failing ok (s + 1) (n + length os) p)
@@ -107,7 +107,7 @@ module _ (ok : ℕ → List Move → Bool) (P : ℕ → List Move → Type 0)
             before = earlier (all_hold (ok s) (P s) (each s) n os q) r.before;
           }
         where
-          earlier : All (P s) os
+          earlier : Every (P s) os
               → ((t k : ℕ) → t < length p → k < length (get_or p t []) → n + length os + (length (joined (take t p)) + k) < i
               → P (s + 1 + t) (moves_of p t k))
               → (t k : ℕ) → t < length (os ∷ p) → k < length (get_or (os ∷ p) t [])
@@ -195,11 +195,11 @@ module _ (k : StateKind) (d : ℕ) (p : Process) (z : List ℕ) where
 
 -- a test of lengths before another answer
 module _ {A : Type 0} (tests : List Bool) (next : Result A Telling) where
-  pub levels_pass : is_ok (unless (at_vector 41) (first_false tests) next) ≡ true → All (λ t. t ≡ true) tests × (is_ok next ≡ true)
+  pub levels_pass : is_ok (unless (at_vector 41) (first_false tests) next) ≡ true → Every (λ t. t ≡ true) tests × (is_ok next ≡ true)
   levels_pass e =
       let u = unless_ok (at_vector 41) (first_false tests) next e in (all_pass (λ t. t) 0 tests u.0, u.1)
 
-  pub pass_levels : All (λ t. t ≡ true) tests → unless (at_vector 41) (first_false tests) next ≡ next
+  pub pass_levels : Every (λ t. t ≡ true) tests → unless (at_vector 41) (first_false tests) next ≡ next
   pass_levels h = ok_unless (at_vector 41) (first_false tests) next (none-fails (λ t. t) 0 tests h)
 
   pub levels_err : (n i : ℕ) → (41 ≡ n → ⊥) → unless (at_vector 41) (first_false tests) next ≡ Err (at_vector n i)

@@ -1,6 +1,6 @@
 -- When a vector with one entry for each state is accepted, and what its refusals name.
 use Rattle.std.specs.Prelude.{◌≡◌, ℕ, ◌+◌, ◌<◌, ◌≤◌, List, [], length, take, Err, Result, slice_index_or}
-use Rattle.std.specs.List.{AllByRecursion as All}
+use Rattle.std.specs.List.{AllByRecursion as Every}
 use Rattle.refusal.specs.Tellings.{Telling, at_vector}
 use Rattle.refusal.specs.Tests.{FirstFailure}
 use Rattle.process.specs.declared.place.Move.{Move}
@@ -13,7 +13,7 @@ use Rattle.kinds.specs.StateKinds.{limit_of, FairAt}
 -- as many entries as states, each within its limit, and the inequality at every option of every state
 pub record Accepted (k : StateKind) (d : ℕ) (p : Process) (z : List ℕ) : Type 0 where
   pub one_each : length z ≡ length p
-  pub limited : All (λ x. x ≤ limit_of k) z
+  pub limited : Every (λ x. x ≤ limit_of k) z
   pub fair : Options p (FairAt k d (length p) z)
 
 -- P of the option that has number o in the whole process, and of its state

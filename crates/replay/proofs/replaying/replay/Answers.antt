@@ -1,9 +1,9 @@
-use Rattle.std.proofs.Common.{◌≡◌, ◌+◌, ◌<◌, [], ◌∷◌, ◌++◌, map, length, get_or, set, vec_items, sym, refl, ap, ◌∙◌, subst, arith}
+use Rattle.std.proofs.Common.{◌≡◌, ◌<◌, map, length, get_or, vec_items, sym, ap, ◌∙◌, subst, arith}
 use Rattle.runs.specs.Acts.{opened, first_standing}
 use Rattle.runs.specs.Steps.{final, replies, all_left}
 use Rattle.runs.proofs.Promised.{upheld}
 use Rattle.replay.specs.Views.{act_of, reply_of, standing, model_of}
-use Rattle.replay.proofs.Along.{Along, along-step, along-all}
+use Rattle.replay.proofs.Along.{along-step, along-all}
 use Rattle.replay.proofs.replaying.replay.Goals as goal
 
 pub apply-next-requires : goal.apply-next-requires

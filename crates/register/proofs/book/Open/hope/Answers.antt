@@ -1,4 +1,4 @@
-use Rattle.std.proofs.Common.{◌≡◌, false, refl, ap, ap₂}
+use Rattle.std.proofs.Common.{false, refl, ap₂}
 use Rattle.runs.specs.Acts.{hope}
 use Rattle.runs.proofs.Leading.{vector_stepped}
 use Rattle.register.proofs.book.Open.hope.Goals as goal

@@ -1,4 +1,4 @@
-use Rattle.std.proofs.Common.{◌≡◌, true, refl}
+use Rattle.std.proofs.Common.{true, refl}
 use Rattle.runs.specs.Acts.{cap}
 use Rattle.runs.proofs.Leading.{vector_stepped}
 use Rattle.register.proofs.book.Settled.cap.Goals as goal

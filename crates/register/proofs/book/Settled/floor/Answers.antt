@@ -1,4 +1,4 @@
-use Rattle.std.proofs.Common.{◌≡◌, true, refl, ap}
+use Rattle.std.proofs.Common.{true, refl, ap}
 use Rattle.runs.specs.Acts.{floor}
 use Rattle.runs.proofs.Leading.{vector_stepped}
 use Rattle.register.proofs.book.Settled.floor.Goals as goal
