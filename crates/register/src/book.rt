@@ -1,4 +1,4 @@
-// Open, settled and closed registers, each a type of its own, over any model.
+// Open and settled registers, each a type of its own, over any model.
 ghost use Rattle.runs.specs.Counts.{Counted};
 
 use process::Model;
@@ -26,10 +26,4 @@ pub struct Settled<M: Model> {
 pub struct Unsettled<M: Model> {
     pub register: Open<M>,
     pub refusal: Refusal,
-}
-
-// What a register hands back when it is closed.
-pub struct Closed<M: Model> {
-    pub model: M,
-    pub sheet: Sheet,
 }

@@ -3,10 +3,9 @@ ghost use Rattle.std.specs.Prelude.{◌≡◌};
 ghost use Rattle.refusal.specs.Tellings.{told};
 ghost use Rattle.runs.specs.Acts.{cap, delay, hope, risk, takes, asks_least, asks_most, opened, first_standing};
 ghost use Rattle.runs.specs.Steps.{finding, unless_full, sheet_after, replied, spoken, Reached, Stepped};
-ghost use Rattle.runs.specs.Holds.{BoundsHold};
 ghost use Rattle.register.specs.Views.{model_after, told_after, standing_after};
 
-use super::{Closed, Open, Settled, Unsettled};
+use super::{Open, Settled, Unsettled};
 use crate::taking::{MOST_TAKEN, take_cap, take_hope, take_risk};
 use process::Model;
 use refusal::Refusal;
@@ -103,16 +102,5 @@ impl<M: Model> Open<M> {
                 refusal,
             }),
         }
-    }
-
-    // Uses the register up; what calls have reached from its making holds of every order.
-    pub fn close(self) -> Closed<M>
-        requires { M.Model.valid self.model }
-        ensures model { result.model ≡ self.model }
-        ensures sheet { result.sheet ≡ self.sheet }
-        ensures holds { Reached M.Model.scale (M.Model.meaning self.model) (opened self.sheet) → BoundsHold M.Model.scale (M.Model.meaning result.model) result.sheet.bracket }
-    {
-        let Open { model, sheet } = self;
-        Closed { model, sheet }
     }
 }

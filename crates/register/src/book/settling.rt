@@ -3,9 +3,8 @@ ghost use Rattle.std.specs.Prelude.{◌≡◌};
 ghost use Rattle.refusal.specs.Tellings.{told};
 ghost use Rattle.runs.specs.Acts.{cap, floor, hope, risk, takes, asks_least, asks_most, settled_at};
 ghost use Rattle.runs.specs.Steps.{replied, spoken, Reached, Stepped};
-ghost use Rattle.runs.specs.Holds.{BoundsHold};
 
-use super::{Closed, Settled};
+use super::Settled;
 use crate::taking::{take_cap, take_floor, take_hope, take_risk};
 use process::Model;
 use refusal::Refusal;
@@ -61,16 +60,5 @@ impl<M: Model> Settled<M> {
         ensures { Stepped M.Model.scale (M.Model.meaning self.now.model) (asks_most chance) (asks_most chance) (settled_at self.now.sheet) (settled_at self.now.sheet) (spoken (told result)) }
     {
         self.sheet.bracket.at_most(chance)
-    }
-
-    // Uses the register up; what calls have reached from its making holds of every order.
-    pub fn close(self) -> Closed<M>
-        requires { M.Model.valid self.model }
-        ensures model { result.model ≡ self.model }
-        ensures sheet { result.sheet ≡ self.sheet }
-        ensures holds { Reached M.Model.scale (M.Model.meaning self.model) (settled_at self.sheet) → BoundsHold M.Model.scale (M.Model.meaning result.model) result.sheet.bracket }
-    {
-        let Settled { model, sheet } = self;
-        Closed { model, sheet }
     }
 }
