@@ -1,20 +1,27 @@
 #![tactic(auto)]
 
 // Reads a depot and the vectors that follow it, and tells what it found.
-ghost use Rattle.std.specs.Prelude.{◌+◌, ◌≤◌, length};
-
 use depot_text::split_input;
+use lines::Text;
 use opened::open_text;
+use passes::Lent;
 use process::size_of;
-use std::io::Read;
-use std::{env, fs, io};
+use std::io::{self, Read};
+use std::{env, fs};
 use table::Table;
 use vector_text::read_vector;
 
 mod telling;
 
-// what is read of an input; what lies past it is not
+// how many bytes are read of an input; what lies past them is not
 const MOST: usize = 65536;
+
+// the most states, options and moves that a depot may have
+const STATES: usize = 4096;
+
+const OPTIONS: usize = 16384;
+
+const MOVES: usize = 65536;
 
 fn main(rt: HostRuntime) -> anyhow::Result<()> {
     run(&rt)
@@ -22,63 +29,51 @@ fn main(rt: HostRuntime) -> anyhow::Result<()> {
 
 fn run(rt: &HostRuntime) -> anyhow::Result<()> {
     let bytes = read_input(rt)?;
-    let most = bytes.len().min(MOST);
-    tell_input(rt, &bytes.as_slice()[0..most])?;
+    tell_input(rt, bytes.as_slice())?;
     Ok(())
 }
 
 // From the file that the one argument names, or from standard input.
 fn read_input(rt: &HostRuntime) -> io::Result<Vec<u8>> {
-    let mut bytes = Vec::new(rt.alloc());
-    let mut args = env::args(rt)?;
-    let _program = args.next();
-    match args.next() {
-        Some(path) => {
-            let file = fs::open(rt, path)?;
-            let _ = file.take(65536).read_to_end(&mut bytes)?;
-        }
-        None => {
-            let _ = rt.stdin().take(65536).read_to_end(&mut bytes)?;
-        }
+    match env::args(rt)?.nth(1) {
+        Some(path) => read_most(rt, fs::open(rt, path)?),
+        None => read_most(rt, rt.stdin()),
     }
+}
+
+fn read_most<R: Read + Drop>(rt: &HostRuntime, reader: R) -> io::Result<Vec<u8>> {
+    let mut bytes = Vec::new(rt.alloc());
+    let _ = reader.take(MOST as u64).read_to_end(&mut bytes)?;
     Ok(bytes)
 }
 
-fn tell_input(rt: &HostRuntime, input: &[u8]) -> io::Result<()>
-    requires { length input.now ≤ 65536 }
-{
-    let mut options = vec![in rt.alloc(); 0u32; 4097]?;
-    let mut starts = vec![in rt.alloc(); 0u32; 16385]?;
-    let mut moves = vec![in rt.alloc(); 0u32; 131072]?;
+fn tell_input(rt: &HostRuntime, input: &[u8]) -> io::Result<()> {
+    let mut options = vec![in rt.alloc(); 0u32; STATES + 1]?;
+    let mut starts = vec![in rt.alloc(); 0u32; OPTIONS + 1]?;
+    let mut moves = vec![in rt.alloc(); 0u32; 2 * MOVES]?;
     let split = split_input(input);
     let mut table = Table::empty();
-    match open_text(
-        &mut table,
-        split.depot,
-        options.as_mut_slice(),
-        starts.as_mut_slice(),
-        moves.as_mut_slice(),
-    ) {
+    let lists = Lent {
+        options: options.as_mut_slice(),
+        starts: starts.as_mut_slice(),
+        moves: moves.as_mut_slice(),
+    };
+    match open_text(&mut table, split.depot, lists) {
         Ok(()) => {
             telling::print_size(rt, size_of(&table))?;
-            tell_vectors(rt, split.lines + 1, split.rest)
+            tell_vectors(rt, split.vectors)
         }
         Err(refusal) => telling::print_refusal(rt, refusal),
     }
 }
 
-fn tell_vectors(rt: &HostRuntime, first: usize, text: &[u8]) -> io::Result<()>
-    requires { first + length text.now ≤ 65537 }
-{
-    let mut entries = vec![in rt.alloc(); 0u32; 16384]?;
-    let mut at = first;
-    let mut rest = text;
-    while rest.len() > 0 {
-        match read_vector(at as u32, rest, entries.as_mut_slice()) {
+fn tell_vectors(rt: &HostRuntime, mut text: Text<'_>) -> io::Result<()> {
+    let mut entries = vec![in rt.alloc(); 0u32; OPTIONS]?;
+    while !text.is_empty() {
+        match read_vector(text, entries.as_mut_slice()) {
             Ok(found) => {
-                telling::print_vector(rt, found.kind, found.count)?;
-                at = found.at;
-                rest = found.rest;
+                telling::print_vector(rt, &found)?;
+                text = found.text;
             }
             Err(refusal) => return telling::print_refusal(rt, refusal),
         }

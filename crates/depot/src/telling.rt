@@ -2,13 +2,11 @@
 use process::Size;
 use refusal::Refusal;
 use std::io;
-use vector_text::Kind;
+use vector_text::Found;
 
 pub(crate) fn print_refusal(rt: &HostRuntime, refusal: Refusal) -> io::Result<()> {
-    let number = refusal.number();
-    let place = refusal.place();
-    println!(rt; "refused={number}")?;
-    println!(rt; "at={place}")
+    println!(rt; "refused={}", refusal.number())?;
+    println!(rt; "at={}", refusal.place())
 }
 
 pub(crate) fn print_size(rt: &HostRuntime, size: Size) -> io::Result<()> {
@@ -17,13 +15,6 @@ pub(crate) fn print_size(rt: &HostRuntime, size: Size) -> io::Result<()> {
     println!(rt; "moves={}", size.moves)
 }
 
-pub(crate) fn print_vector(rt: &HostRuntime, kind: Kind, count: usize) -> io::Result<()> {
-    let word = match kind {
-        Kind::Cap => "cap",
-        Kind::Floor => "floor",
-        Kind::Delay => "delay",
-        Kind::Hope => "hope",
-        Kind::Risk => "risk",
-    };
-    println!(rt; "vector={word} entries={count}")
+pub(crate) fn print_vector(rt: &HostRuntime, found: &Found<'_>) -> io::Result<()> {
+    println!(rt; "vector={} entries={}", found.kind, found.count)
 }

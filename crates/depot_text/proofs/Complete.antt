@@ -1,11 +1,9 @@
 -- The lines of a depot that fits run to the end, and leave its encoding in the lists.
-use Rattle.std.proofs.Common.{◌≡◌, ℕ, ◌+◌, ◌-◌, ◌*◌, ◌<◌, ◌≤◌, Bool, true, cond, ◌||◌, ltb, leb, List, [], ◌∷◌, ◌++◌, map, length, set, Some, Ok, Result, sym, refl, ap, ◌∙◌, subst, append_assoc, append-nil, arith, length-append}
+use Rattle.std.proofs.Common.{◌≡◌, ℕ, ◌+◌, ◌-◌, ◌*◌, ◌<◌, ◌≤◌, true, ◌||◌, leb, List, [], ◌∷◌, ◌++◌, map, length, set, Some, Ok, sym, refl, ap, ◌∙◌, subst, append_assoc, append-nil, arith, length-append}
 use lib.ListN.{length-map}
 use Rattle.std.specs.List.{AllByRecursion as Every}
 use Rattle.std.proofs.lemmas.List.{length_push, map-append}
 use Rattle.std.proofs.lemmas.Bool.{cond-true, and_from, or_right, lt-ltb, le-leb, eq-eqb}
-use Rattle.refusal.specs.Tellings.{Telling}
-use Rattle.refusal.specs.Tests.{between}
 use Rattle.refusal.proofs.Tests.{says-between}
 use Rattle.process.specs.Process.{joined, weights, Within, OptionFormed, StateFormed}
 use Rattle.process.proofs.Joined.{joined-append, length-joined-append}
@@ -17,31 +15,21 @@ use Rattle.depot_text.specs.declared.item.Spelled.{Spelled}
 use Rattle.depot_text.specs.declared.item.Spelled.TheVariants as spelled
 use Rattle.depot_text.specs.declared.item.Item.{Item}
 use Rattle.depot_text.specs.declared.item.Item.TheVariants as item
-use Rattle.depot_text.specs.declared.progress.Phase.TheVariants as phase
 use Rattle.depot_text.specs.declared.progress.Rules.{Rules}
 use Rattle.depot_text.specs.declared.progress.Progress.{Progress}
-use Rattle.depot_text.specs.Machine.{at_phase, lacking, made_up, closed, exists, start, on_item}
-use Rattle.depot_text.specs.Machine.{may_state, may_choice, may_to, may_end}
+use Rattle.depot_text.specs.Machine.{at_states, at_state, at_weight, at_end, lacks_at, lacking, made_up, closed, exists, start}
+use Rattle.depot_text.specs.Machine.{may_to}
 use Rattle.depot_text.specs.Machine.{after_kind, after_states, after_state, after_choice}
 use Rattle.depot_text.specs.Machine.{after_to, after_weight, after_end}
-use Rattle.depot_text.specs.Loading.{place_of, depot, puts}
+use Rattle.depot_text.specs.Loading.{place_of, depot, puts, rules_of}
 use Rattle.passes.specs.Over.{over}
 use Rattle.passes.proofs.Over.{set_over}
 use Rattle.depot_text.specs.Spelling.{SpelledMove, Tree, Fits, move_of, process_of, spread}
 use Rattle.depot_text.specs.Spelling.{move_items, option_items, state_items, depot_items}
-use Rattle.depot_text.proofs.Runs.{run, wrote, onward, rules_of}
+use Rattle.depot_text.proofs.Runs.{run, wrote, onward}
+use Rattle.depot_text.proofs.Taken.{Asks, after_item, takes}
 use Rattle.depot_text.proofs.Filling.{heads, length_heads, starts-append, starts-map}
 use Rattle.depot_text.proofs.Filling.{joined-map, moves_written-append}
-
--- demands that are met
-abbrev R : Type 0
-R = Result Progress Telling
-
-two : (a b : Bool) (x e f : R) → a ≡ true → b ≡ true → cond a (cond b x e) f ≡ x
-two a b x e f p q = cond-true a (cond b x e) f p ∙ cond-true b x e q
-
-three : (a b c : Bool) (x d e f : R) → a ≡ true → b ≡ true → c ≡ true → cond a (cond b (cond c x d) e) f ≡ x
-three a b c x d e f p q o = cond-true a (cond b (cond c x d) e) f p ∙ two b c x d e q o
 
 present : (n : ℕ) (p : Spelled) → Within n (place_of p) → exists n p ≡ true
 present n (spelled.State k) h = lt-ltb k n h
@@ -57,15 +45,16 @@ record Goes (r : Rules) (s : Progress) (l : Lists) (is : List Item) (y : Progres
 goes_none : (r : Rules) (s : Progress) (l : Lists) → Goes r s l [] s l
 goes_none r s l = record { line = λ at. at; runs = λ at rest. refl; writes = λ at rest. refl }
 
-module _ {r : Rules} {s y : Progress} {l : Lists} where
-  goes_one : (i : Item) → ((at : ℕ) → on_item r s at i ≡ Ok y) → Goes r s l (i ∷ []) y (puts (depot r y) l)
-  goes_one i e =
-      record {
-        line = λ at. at + 1;
-        runs = λ at rest. ap (λ w. then w (λ x. run r x (at + 1) rest)) (e at);
-        writes = λ at rest. ap (λ w. onward w l (λ x. wrote r x (at + 1) (puts (depot r x) l) rest)) (e at);
-      }
+goes_one : {r : Rules} {s : Progress} {l : Lists} (i : Item) → Asks r s i
+    → Goes r s l (i ∷ []) (after_item r s i) (puts (depot r (after_item r s i)) l)
+goes_one {r} {s} {l} i a =
+    record {
+      line = λ at. at + 1;
+      runs = λ at rest. ap (λ w. then w (λ x. run r x (at + 1) rest)) (takes r s at i a);
+      writes = λ at rest. ap (λ w. onward w l (λ x. wrote r x (at + 1) (puts (depot r x) l) rest)) (takes r s at i a);
+    }
 
+module _ {r : Rules} {s y : Progress} {l : Lists} where
   goes_then : {z : Progress} {k m : Lists} {is js : List Item} → Goes r s l is y k → Goes r y k js z m
       → Goes r s l (is ++ js) z m
   goes_then {z} {k} {m} {is} {js} p q =
@@ -92,10 +81,10 @@ record Counts (s : Progress) (n b f o m : ℕ) : Type 0 where
   moves : s.moves ≡ m
 
 abbrev Late : Progress → Type 0
-Late s = at_phase s.phase phase.Weight ≡ true
+Late s = at_weight s.phase ≡ true
 
-late_closed : (s : Progress) → Late s → s.lacks ≡ Some 0 → closed s ≡ true
-late_closed s w e = cond-true (at_phase s.phase phase.Weight) (made_up s.lacks) true w ∙ ap made_up e
+late_closed : (s : Progress) → Late s → lacks_at s.phase ≡ Some 0 → closed s ≡ true
+late_closed s w e = cond-true (at_weight s.phase) (made_up (lacks_at s.phase)) true w ∙ ap made_up e
 
 lacking_less : (w k : ℕ) → lacking (Some (w + k)) w ≡ Some k
 lacking_less w k =
@@ -133,13 +122,11 @@ module _ (r : Rules) (n u v : ℕ) (O S M : List ℕ) (room : Room r n u v O S M
         let p = x.to in
         let w = x.weight in
         let q = place_number (place_of p) in
-        let s1 = after_to s p in
-        let first : (at : ℕ) → on_item r s at (item.To p) ≡ Ok s1 = λ at.
-        three (may_to s) (exists s.states p) (ltb s.moves r.moves) (Ok s1) _ _ _ may
-        (present s.states p (subst (λ i. Within i (place_of p)) (sym c.states) h))
-        (lt-ltb s.moves r.moves (omega (arith, c.moves, room.move_rule))) in
-        let second : (at : ℕ) → on_item r s1 at (item.Weight w) ≡ Ok (after_weight s1 w) = λ at.
-        cond-true (leb w r.scale) (Ok (after_weight s1 w)) _ (le-leb w r.scale small) in
+        let first : Asks r s (item.To p) = (
+          may,
+          present s.states p (subst (λ i. Within i (place_of p)) (sym c.states) h),
+          lt-ltb s.moves r.moves (omega (arith, c.moves, room.move_rule)),
+        ) in
         let i = 2 * (s.moves + 1 - 1) in
         let there : i ≡ length C = omega (arith, c.moves) in
         let more-long = length_push C q in
@@ -148,14 +135,14 @@ module _ (r : Rules) (n u v : ℕ) (O S M : List ℕ) (room : Room r n u v O S M
         ∙ set_over (C ++ (q ∷ [])) M (i + 1) w (omega arith) (omega (arith, c.moves, room.moves))
         ∙ ap (λ z. over z M) (append_assoc C (q ∷ []) (w ∷ [])) in
         goes_as (ap (λ z. lists (over A O) (over B S) z) filled)
-        (goes_then (goes_one (item.To p) first) (goes_one (item.Weight w) second))
+        (goes_then (goes_one (item.To p) first) (goes_one (item.Weight w) (refl, le-leb w r.scale small)))
 
     -- moves that are left of an option: nothing is lacking after them
     moves_on : (todo : List SpelledMove) (m : ℕ) (s : Progress) (C : List ℕ) → Counts s n b f o m → may_to s ≡ true
-        → (length todo ≡ 0 → Late s) → s.lacks ≡ Some (weights (map move_of todo))
+        → (length todo ≡ 0 → Late s) → lacks_at s.phase ≡ Some (weights (map move_of todo))
         → Every (λ x. Within n x.place) (map move_of todo) → weights (map move_of todo) ≤ r.scale
         → m + length todo ≤ v → length C ≡ 2 * m
-        → (y : Progress) × Counts y n b f o (m + length todo) × Late y × (y.lacks ≡ Some 0)
+        → (y : Progress) × Counts y n b f o (m + length todo) × Late y × (lacks_at y.phase ≡ Some 0)
         × Goes r s (fill A B C) (move_items todo) y (fill A B (C ++ moves_written (map move_of todo)))
     moves_on [] m s C c may late lacks hs small more long =
         let d : Counts s n b f o (m + 0) = omega (arith, c) in
@@ -166,7 +153,7 @@ module _ (r : Rules) (n u v : ℕ) (O S M : List ℕ) (room : Room r n u v O S M
         let D = C ++ moves_written (move_of x ∷ []) in
         let go = one_move x m s C c may hs.0 (omega arith) (omega arith) long in
         let d : Counts y n b f o (m + 1) = omega (arith, c) in
-        let left : y.lacks ≡ Some k = ap (λ z. lacking z x.weight) lacks ∙ lacking_less x.weight k in
+        let left : lacks_at y.phase ≡ Some k = ap (λ z. lacking z x.weight) lacks ∙ lacking_less x.weight k in
         let far = length-append C (moves_written (move_of x ∷ [])) in
         let g = moves_on todo (m + 1) y D d refl (λ _. refl) left hs.1 (omega arith) (omega arith) (omega arith) in
         let same = append_assoc C (moves_written (move_of x ∷ [])) (moves_written (map move_of todo)) in
@@ -177,7 +164,7 @@ module _ (r : Rules) (n u v : ℕ) (O S M : List ℕ) (room : Room r n u v O S M
   module _ (A : List ℕ) (b f : ℕ) where
     -- options that are left of a state, the first of them number j
     options_on : (todo : List (List SpelledMove)) (j o m : ℕ) (s : Progress) (B C : List ℕ) → Counts s n b f o m
-        → (at_phase s.phase phase.State || at_phase s.phase phase.Weight) ≡ true → closed s ≡ true
+        → (at_state s.phase || at_weight s.phase) ≡ true → closed s ≡ true
         → (length todo ≡ 0 → Late s) → Every (OptionFormed r.scale n) (map (map move_of) todo)
         → f + j ≡ o → o + length todo ≤ u → m + length (joined todo) ≤ v → length B ≡ o → length C ≡ 2 * m
         → (y : Progress) × Counts y n b f (o + length todo) (m + length (joined todo)) × Late y × (closed y ≡ true)
@@ -199,10 +186,11 @@ module _ (r : Rules) (n u v : ℕ) (O S M : List ℕ) (room : Room r n u v O S M
         let long-m = length-moves_written (map move_of ms) in
         let own : j ≡ s.options - s.before = omega (arith, c) in
         let some : 1 ≤ length ms = omega (arith, fs.0.some_move) in
-        let first : (at : ℕ) → on_item r s at (item.Choice j) ≡ Ok s1 = λ at.
-        three (may_choice s j) (ltb s.options r.options) (closed s) (Ok s1) _ _ _
-        (and_from _ _ may (eq-eqb j (s.options - s.before) own))
-        (lt-ltb s.options r.options (omega (arith, c, room.option_rule))) full in
+        let first : Asks r s (item.Choice j) = (
+          and_from _ _ may (eq-eqb j (s.options - s.before) own),
+          lt-ltb s.options r.options (omega (arith, c, room.option_rule)),
+          full,
+        ) in
         let filled : set (over B S) i s.moves ≡ over (B ++ (m ∷ [])) S =
         set_over B S i s.moves (omega (arith, c)) (omega (arith, c, room.options))
         ∙ ap (λ z. over (B ++ (z ∷ [])) S) c.moves in
@@ -213,7 +201,7 @@ module _ (r : Rules) (n u v : ℕ) (O S M : List ℕ) (room : Room r n u v O S M
         let y = g.0 in
         let h =
         options_on todo (j + 1) (o + 1) (m + length ms) y (B ++ (m ∷ [])) W g.1
-        (or_right (at_phase y.phase phase.State) _ g.2) (late_closed y g.2 g.3) (λ _. g.2) fs.1
+        (or_right (at_state y.phase) _ g.2) (late_closed y g.2 g.3) (λ _. g.2) fs.1
         (omega arith) (omega arith) (omega arith) (omega arith) (omega arith) in
         let e = h.1 in
         let count : Counts h.0 n b f (o + length (ms ∷ todo)) (m + length (joined (ms ∷ todo))) = omega (arith, e) in
@@ -231,18 +219,17 @@ module _ (r : Rules) (n u v : ℕ) (O S M : List ℕ) (room : Room r n u v O S M
 
   -- states that are left, and the end
   states_on : (todo : Tree) (b f o m : ℕ) (s : Progress) (A B C : List ℕ) → Counts s n b f o m
-      → (at_phase s.phase phase.States || at_phase s.phase phase.Weight) ≡ true → closed s ≡ true
+      → (at_states s.phase || at_weight s.phase) ≡ true → closed s ≡ true
       → (length todo ≡ 0 → Late s) → Every (StateFormed r.scale n) (process_of todo)
       → b + length todo ≡ n → o + length (joined todo) ≤ u → m + length (joined (joined todo)) ≤ v
       → length A ≡ b → length B ≡ o → length C ≡ 2 * m
-      → (y : Progress) × (at_phase y.phase phase.End ≡ true)
+      → (y : Progress) × (at_end y.phase ≡ true)
       × Goes r s (fill A B C) (state_items b todo ++ (item.End ∷ [])) y
       (fill (A ++ starts_from o todo) (B ++ starts_from m (joined todo))
       (C ++ moves_written (map move_of (joined (joined todo)))))
   states_on [] b f o m s A B C c may full late fs all more-o more-m long-a long-b long-c =
-      let last : (at : ℕ) → on_item r s at item.End ≡ Ok (after_end s) = λ at.
-      two (may_end s) (closed s) (Ok (after_end s)) _ _
-      (and_from _ _ (late refl) (eq-eqb s.begun s.states (omega (arith, c)))) full in
+      let last : Asks r s item.End =
+      (and_from _ _ (late refl) (eq-eqb s.begun s.states (omega (arith, c))), full) in
       let x =
       set_over A O s.begun s.options (omega (arith, c)) (omega (arith, c, room.states))
       ∙ ap (λ z. over (A ++ (z ∷ [])) O) c.options in
@@ -253,11 +240,10 @@ module _ (r : Rules) (n u v : ℕ) (O S M : List ℕ) (room : Room r n u v O S M
       (after_end s, refl, goes_as (λ i. lists (x i) (y i) (z i)) (goes_one item.End last))
   states_on (os ∷ todo) b f o m s A B C c may full late fs all more-o more-m long-a long-b long-c =
       let s1 = after_state s b in
-      let first : (at : ℕ) → on_item r s at (item.State b) ≡ Ok s1 = λ at.
-      two (may_state s b) (closed s) (Ok s1) _ _
-      (and_from _ _ may
-      (and_from _ _ (eq-eqb b s.begun (omega (arith, c))) (lt-ltb b s.states (omega (arith, c)))))
-      full in
+      let first : Asks r s (item.State b) = (
+        and_from _ _ may (and_from _ _ (eq-eqb b s.begun (omega (arith, c))) (lt-ltb b s.states (omega (arith, c)))),
+        full,
+      ) in
       let filled : set (over A O) (b + 1 - 1) s.options ≡ over (A ++ (o ∷ [])) O =
       set_over A O (b + 1 - 1) s.options (omega arith) (omega (arith, room.states))
       ∙ ap (λ z. over (A ++ (z ∷ [])) O) c.options in
@@ -280,7 +266,7 @@ module _ (r : Rules) (n u v : ℕ) (O S M : List ℕ) (room : Room r n u v O S M
       let long-j = length-map (joined os) move_of in
       let h =
       states_on todo (b + 1) o (o + length os) (m + length (joined os)) y (A ++ (o ∷ [])) V W g.1
-      (or_right (at_phase y.phase phase.States) _ g.2) g.3 (λ _. g.2) fs.1
+      (or_right (at_states y.phase) _ g.2) g.3 (λ _. g.2) fs.1
       (omega arith) (omega arith) (omega arith) (omega arith) (omega arith) (omega arith) in
       let x = append_assoc A (o ∷ []) (starts_from (o + length os) todo) in
       let z =
@@ -311,7 +297,7 @@ pub length-moves : (t : Tree) → length (joined (joined (process_of t))) ≡ le
 length-moves t = ap length (all_moves t) ∙ length-map (joined (joined t)) move_of
 
 module _ (d : ℕ) (l : Lists) (t : Tree) (h : Fits d l t) where
-  depot_goes : (y : Progress) × (at_phase y.phase phase.End ≡ true)
+  depot_goes : (y : Progress) × (at_end y.phase ≡ true)
       × Goes (rules_of d l) start l (depot_items t) y (spread (encoding (process_of t)) l)
   depot_goes =
       let r = rules_of d l in
@@ -324,11 +310,11 @@ module _ (d : ℕ) (l : Lists) (t : Tree) (h : Fits d l t) where
       let long-m = length-moves t in
       let room : Room r n (length (joined t)) (length (joined (joined t))) l.option_starts l.move_starts l.moves =
       omega (arith, f, h) in
-      let kind : (at : ℕ) → on_item r start at item.Kind ≡ Ok s1 = λ at. refl in
-      let states : (at : ℕ) → on_item r s1 at (item.States n) ≡ Ok s2 = λ at.
-      two (between 1 4096 n) (leb n r.states) (Ok s2) _ _
-      (says-between 1 4096 n (omega (arith, f.some_state)) (omega (arith, f.state_limit)))
-      (le-leb n r.states (omega (arith, f.state_limit, h.state_room))) in
+      let states : Asks r s1 (item.States n) = (
+        refl,
+        says-between 1 4096 n (omega (arith, f.some_state)) (omega (arith, f.state_limit)),
+        le-leb n r.states (omega (arith, f.state_limit, h.state_room)),
+      ) in
       let zero : Counts s2 n 0 0 0 0 = omega arith in
       let g =
       states_on r n (length (joined t)) (length (joined (joined t))) l.option_starts l.move_starts l.moves room
@@ -341,7 +327,7 @@ module _ (d : ℕ) (l : Lists) (t : Tree) (h : Fits d l t) where
         g.0,
         g.1,
         goes_as {y = g.0} (λ i. spread (lists (x i) (y i) (z i)) l)
-            (goes_then {y = s1} {z = g.0} (goes_one item.Kind kind)
+            (goes_then {y = s1} {z = g.0} (goes_one item.Kind refl)
             (goes_then {y = s2} {z = g.0} (goes_one (item.States n) states) g.2)),
       )
 
@@ -353,7 +339,7 @@ spelled_runs d first l t h =
       y,
       ap (run (rules_of d l) start first) (sym (append-nil (depot_items t)))
           ∙ g.2.runs first []
-          ∙ cond-true (at_phase y.phase phase.End) (Ok y) _ g.1,
+          ∙ cond-true (at_end y.phase) (Ok y) _ g.1,
     )
 
 pub run_writes : (d first : ℕ) (l : Lists) (t : Tree) → Fits d l t

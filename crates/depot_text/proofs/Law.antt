@@ -1,5 +1,5 @@
 -- A text is loaded exactly when it spells a depot that fits.
-use Rattle.std.proofs.Common.{◌≡◌, ℕ, ◌≤◌, List, is_ok, Ok, Err, Result, sym, refl, ap, ◌∙◌, arith}
+use Rattle.std.proofs.Common.{◌≡◌, ℕ, ◌≤◌, List, is_ok, Ok, Err, Result, sym, refl, ap, ◌∙◌}
 use Rattle.std.specs.List.{flat_map as written_all}
 use Rattle.std.proofs.lemmas.Bool.{cond-true, cond-false}
 use Rattle.refusal.specs.Tellings.{Telling}
@@ -13,9 +13,9 @@ use Rattle.depot_text.specs.declared.item.Item.{Item}
 use Rattle.depot_text.specs.declared.progress.Progress.{Progress}
 use Rattle.depot_text.specs.declared.progress.Depot.{Depot}
 use Rattle.depot_text.specs.Machine.{start}
-use Rattle.depot_text.specs.Loading.{depot, next, ended, puts, beginning, size, sized, read, answer, left}
+use Rattle.depot_text.specs.Loading.{depot, next, ended, puts, rules_of, beginning, size, sized, read, answer, left}
 use Rattle.depot_text.specs.Spelling.{Tree, process_of, says, depot_items, render, size_of, Fits, spread, LoadedAsSpelled}
-use Rattle.depot_text.proofs.Runs.{run, rules_of}
+use Rattle.depot_text.proofs.Runs.{run}
 use Rattle.depot_text.proofs.Texts.{items_of_read, read_of_items, filled_of_items}
 use Rattle.depot_text.proofs.Undone.{one_spelling, one_tree}
 use Rattle.depot_text.proofs.Proper.{proper_items}
@@ -24,7 +24,7 @@ use Rattle.depot_text.proofs.Shapes.{run_spells}
 
 sized_ok : (r : Result Depot Telling) (n : Size) → sized r ≡ Ok n → (m : Depot) × (r ≡ Ok m)
 sized_ok (Ok m) n e = (m, refl)
-sized_ok (Err f) n e = let z : ◌≡◌ {A = ℕ} 0 1 = cc in absurd (omega arith)
+sized_ok (Err f) n e = cc
 
 is_sized : (r : Result Depot Telling) → is_ok (sized r) ≡ is_ok r
 is_sized (Ok m) = refl
@@ -76,7 +76,7 @@ module _ (d first : ℕ) (t : List ℕ) (l : Lists) where
         refused = λ e. cond-false (is_ok (read d first t l)) _ l (sym (is_sized (read d first t l)) ∙ e);
       }
 
-  -- of an answer and lists that are those
-  pub loaded_by : (r : Result Size Telling) (new : Lists) → 1 ≤ d → d ≤ 65536
-      → r ≡ answer d first t l → new ≡ left d first t l → LoadedAsSpelled d t l r new
-  loaded_by r new low high e f = rw (e, f) (loading_law low high)
+-- of an answer and lists that are those, the first line having the number 1
+pub loaded_by : (d : ℕ) (t : List ℕ) (l : Lists) (r : Result Size Telling) (new : Lists) → 1 ≤ d → d ≤ 65536
+    → r ≡ answer d 1 t l → new ≡ left d 1 t l → LoadedAsSpelled d t l r new
+loaded_by d t l r new low high e f = rw (e, f) (loading_law d 1 t l low high)

@@ -1,5 +1,5 @@
 -- Items that run to the end spell a depot that fits.
-use Rattle.std.proofs.Common.{◌≡◌, ℕ, ◌+◌, ◌-◌, ◌≤◌, true, cond, ◌||◌, eqb, leb, List, [], ◌∷◌, ◌++◌, map, length, Some, None, Ok, Err, Option, Result, sym, refl, ap, ◌∙◌, subst, ⊎_elim, append_assoc, arith, length-append}
+use Rattle.std.proofs.Common.{◌≡◌, ℕ, ◌+◌, ◌-◌, ◌≤◌, true, cond, ◌||◌, ◌==◌, eqb, leb, List, [], ◌∷◌, ◌++◌, map, length, Some, None, Ok, Err, Option, Result, sym, refl, ap, ◌∙◌, subst, inl, inr, ⊎_elim, append_assoc, arith, length-append}
 use lib.ListN.{length-map}
 use Rattle.std.specs.List.{AllByRecursion as Every}
 use Rattle.std.proofs.lemmas.Bool.{cond-true, cond-false, cases_Bool, and_parts, or_cases, ltb-true, leb-true, eqb-true}
@@ -20,38 +20,27 @@ use Rattle.depot_text.specs.declared.progress.Phase.{Phase}
 use Rattle.depot_text.specs.declared.progress.Phase.TheVariants as phase
 use Rattle.depot_text.specs.declared.progress.Rules.{Rules}
 use Rattle.depot_text.specs.declared.progress.Progress.{Progress}
-use Rattle.depot_text.specs.Machine.{phase_number, at_phase, lacking, made_up, closed, exists, start, on_item}
+use Rattle.depot_text.specs.Machine.{phase_number, at_states, at_state, at_choice, at_weight, at_end, lacks_at, lacking, made_up, closed, exists, start, on_item}
 use Rattle.depot_text.specs.Machine.{may_state, may_choice}
-use Rattle.depot_text.specs.Machine.{after_kind, after_states, after_state, after_choice}
-use Rattle.depot_text.specs.Machine.{after_to, after_weight, after_end}
-use Rattle.depot_text.specs.Loading.{place_of, depot, size}
+use Rattle.depot_text.specs.Machine.{after_states, after_state, after_choice}
+use Rattle.depot_text.specs.Machine.{after_to, after_end}
+use Rattle.depot_text.specs.Loading.{place_of, depot, rules_of, size}
 use Rattle.depot_text.specs.Spelling.{SpelledMove, Tree, Fits, move_of, process_of, spread, size_of}
 use Rattle.depot_text.specs.Spelling.{move_items, option_items, state_items, depot_items}
-use Rattle.depot_text.proofs.Runs.{run, wrote, rules_of}
-use Rattle.depot_text.proofs.Taken.{Taken, taken, same_ok, err_ok}
+use Rattle.depot_text.proofs.Runs.{run, wrote}
+use Rattle.depot_text.proofs.Taken.{Asks, after_item, taken}
 use Rattle.depot_text.proofs.Complete.{length_options, length-moves, run_writes}
 
--- a phase is known by its number
+-- the phase of a number, whatever it carries
 abbrev phase_of : ℕ → Phase
 phase_of n =
     cond (eqb n 0) phase.Start
     (cond (eqb n 1) phase.Kind
     (cond (eqb n 2) phase.States
     (cond (eqb n 3) phase.State
-    (cond (eqb n 4) phase.Choice (cond (eqb n 5) phase.To (cond (eqb n 6) phase.Weight phase.End))))))
-
-phase_back : (p : Phase) → phase_of (phase_number p) ≡ p
-phase_back phase.Start = refl
-phase_back phase.Kind = refl
-phase_back phase.States = refl
-phase_back phase.State = refl
-phase_back phase.Choice = refl
-phase_back phase.To = refl
-phase_back phase.Weight = refl
-phase_back phase.End = refl
-
-same_phase : (p q : Phase) → at_phase p q ≡ true → p ≡ q
-same_phase p q t = sym (phase_back p) ∙ ap phase_of (eqb-true (phase_number p) (phase_number q) t) ∙ phase_back q
+    (cond (eqb n 4) (phase.Choice None)
+    (cond (eqb n 5) (phase.To spelled.Exit None)
+    (cond (eqb n 6) (phase.Weight spelled.Exit 0 None) phase.End))))))
 
 within : (n : ℕ) (p : Spelled) → exists n p ≡ true → Within n (place_of p)
 within n (spelled.State k) t = ltb-true k n t
@@ -60,28 +49,24 @@ within n spelled.Exit t = tt
 
 -- what was lacking before a weight
 was_lacking : (o : Option ℕ) (w k : ℕ) → lacking o w ≡ Some k → o ≡ Some (w + k)
-was_lacking None w k e = let z : ◌≡◌ {A = ℕ} 0 1 = cc in absurd (omega arith)
+was_lacking None w k e = cc
 was_lacking (Some x) w k e =
-    ⊎_elim
-    (λ t.
-    let l = leb-true w x t in
-    let f : ◌≡◌ {A = Option ℕ} (Some (x - w)) (Some k) = sym (cond-true (leb w x) (Some (x - w)) None t) ∙ e in
-    let g : x - w ≡ k = cc in
-    let h : x ≡ w + k = omega arith in
-    ap Some h)
-    (λ t.
-    let f : ◌≡◌ {A = Option ℕ} None (Some k) = sym (cond-false (leb w x) (Some (x - w)) None t) ∙ e in
-    let z : ◌≡◌ {A = ℕ} 0 1 = cc in
-    absurd (omega arith))
-    (cases_Bool (leb w x))
+    elim (cases_Bool (leb w x)) [
+      | inl t ↦
+          let f = cond-true (leb w x) (Some (x - w)) None t in
+          let g : x - w ≡ k = cc in
+          let h : x ≡ w + k = omega (arith, leb-true w x t) in
+          ap Some h
+      | inr t ↦ let f = cond-false (leb w x) (Some (x - w)) None t in cc
+    ]
 
 nothing_lacks : (o : Option ℕ) → made_up o ≡ true → o ≡ Some 0
-nothing_lacks None e = let z : ◌≡◌ {A = ℕ} 0 1 = cc in absurd (omega arith)
+nothing_lacks None e = cc
 nothing_lacks (Some x) e = ap Some (eqb-true x 0 e)
 
-full : (s : Progress) → at_phase s.phase phase.Weight ≡ true → closed s ≡ true → s.lacks ≡ Some 0
+full : (s : Progress) → at_weight s.phase ≡ true → closed s ≡ true → lacks_at s.phase ≡ Some 0
 full s w t =
-    nothing_lacks s.lacks (sym (cond-true (at_phase s.phase phase.Weight) (made_up s.lacks) true w) ∙ t)
+    nothing_lacks (lacks_at s.phase) (sym (cond-true (at_weight s.phase) (made_up (lacks_at s.phase)) true w) ∙ t)
 
 -- the counts keep within the rules
 record Counted (r : Rules) (s : Progress) : Type 0 where
@@ -89,19 +74,15 @@ record Counted (r : Rules) (s : Progress) : Type 0 where
   options : s.options ≤ r.options
   moves : s.moves ≤ r.moves
 
-counted : (r : Rules) (s : Progress) (i : Item) (y : Progress) → Taken r s i y → Counted r s → Counted r y
-counted r s item.Kind y t h = subst (Counted r) t.1 (let x : Counted r (after_kind s) = omega arith in x)
-counted r s (item.States n) y t h = subst (Counted r) t.3 (let x : Counted r (after_states s n) = omega arith in x)
-counted r s (item.State k) y t h = subst (Counted r) t.2 (let x : Counted r (after_state s k) = omega arith in x)
-counted r s (item.Choice j) y t h =
-    let room = ltb-true s.options r.options t.1 in
-    subst (Counted r) t.3 (let x : Counted r (after_choice r.scale s) = omega arith in x)
-counted r s (item.To p) y t h =
-    let room = ltb-true s.moves r.moves t.2 in
-    subst (Counted r) t.3 (let x : Counted r (after_to s p) = omega arith in x)
-counted r s (item.Weight w) y t h = subst (Counted r) t.2 (let x : Counted r (after_weight s w) = omega arith in x)
-counted r s item.End y t h = subst (Counted r) t.2 (let x : Counted r (after_end s) = omega arith in x)
-counted r s item.Other y t h = absurd t
+counted : (r : Rules) (s : Progress) (i : Item) → Asks r s i → Counted r s → Counted r (after_item r s i)
+counted r s item.Kind a h = omega arith
+counted r s (item.States n) a h = omega arith
+counted r s (item.State k) a h = omega arith
+counted r s (item.Choice j) a h = omega (arith, ltb-true s.options r.options a.1)
+counted r s (item.To p) a h = omega (arith, ltb-true s.moves r.moves a.2)
+counted r s (item.Weight w) a h = omega arith
+counted r s item.End a h = omega arith
+counted r s item.Other a h = absurd a
 
 module _ (r : Rules) where
   -- From n states, b of them begun, o options and m moves, options os more of the last state and states t lead to y.
@@ -127,7 +108,7 @@ module _ (r : Rules) where
 
   abbrev MovesAhead : Progress → List Item → Progress → List SpelledMove → List (List SpelledMove) → Tree → Type 0
   MovesAhead s is y ms os t =
-      (is ≡ move_items ms ++ options_left s os t) × (s.lacks ≡ Some (weights (map move_of ms)))
+      (is ≡ move_items ms ++ options_left s os t) × (lacks_at s.phase ≡ Some (weights (map move_of ms)))
       × Every (λ m. Within s.states m.place) (map move_of ms) × Ahead s y (length ms) os t
 
   abbrev Small : ℕ → Type 0
@@ -143,34 +124,34 @@ module _ (r : Rules) where
   RestAt phase.States s is y = (t : Tree) × (is ≡ states_left s t) × Ahead s y 0 [] t
   RestAt phase.State s is y =
       (os : List (List SpelledMove)) × (t : Tree) × (is ≡ options_left s os t) × (1 ≤ length os) × Ahead s y 0 os t
-  RestAt phase.Choice s is y =
+  RestAt (phase.Choice k) s is y =
       (ms : List SpelledMove) × (os : List (List SpelledMove)) × (t : Tree) × (1 ≤ length ms)
       × MovesAhead s is y ms os t
-  RestAt phase.To s is y =
+  RestAt (phase.To p k) s is y =
       (w : ℕ) × (ms : List SpelledMove) × (os : List (List SpelledMove)) × (t : Tree)
       × (is ≡ item.Weight w ∷ (move_items ms ++ options_left s os t))
-      × (s.lacks ≡ Some (w + weights (map move_of ms)))
+      × (lacks_at s.phase ≡ Some (w + weights (map move_of ms)))
       × Every (λ m. Within s.states m.place) (map move_of ms) × Ahead s y (length ms) os t
-  RestAt phase.Weight s is y =
+  RestAt (phase.Weight p w k) s is y =
       (ms : List SpelledMove) × (os : List (List SpelledMove)) × (t : Tree) × MovesAhead s is y ms os t
   RestAt phase.End s is y = (is ≡ []) × (s ≡ y)
 
   abbrev Rest : Progress → List Item → Progress → Type 0
-  Rest s is y = RestAt s.phase s is y
+  Rest s is y = RestAt (phase_of (phase_number s.phase)) s is y
 
   module _ (s : Progress) (h : Counted r s) (is : List Item) (y : Progress) where
     -- it is enough to show what the phase asks
-    by : (p : Phase) (js : List Item) → at_phase s.phase p ≡ true → RestAt p s js y → Rest s js y
-    by p js t x = subst (λ q. RestAt q s js y) (sym (same_phase s.phase p t)) x
+    by : (n : ℕ) (js : List Item) → (phase_number s.phase == n) ≡ true → RestAt (phase_of n) s js y → Rest s js y
+    by n js t x = subst (λ k. RestAt (phase_of k) s js y) (sym (eqb-true (phase_number s.phase) n t)) x
 
     -- an item in front of what is known to follow
-    at-state : (k : ℕ) → may_state s k ≡ true → Rest (after_state s k) is y
+    front-state : (k : ℕ) → may_state s k ≡ true → Rest (after_state s k) is y
         → (t : Tree) × (item.State k ∷ is ≡ states_left s t) × Ahead s y 0 [] t
-    at-state k may x =
+    front-state k may x =
         let os = x.0 in
         let t = x.1 in
         let a = x.4 in
-        let parts = and_parts (at_phase s.phase phase.States || at_phase s.phase phase.Weight) _ may in
+        let parts = and_parts (at_states s.phase || at_weight s.phase) _ may in
         let same : k ≡ s.begun = eqb-true k s.begun (and_parts (eqb k s.begun) _ parts.1).0 in
         let none : s.options - s.options ≡ 0 = omega arith in
         let long = length-append os (joined t) in
@@ -194,15 +175,15 @@ module _ (r : Rules) where
           },
         )
 
-    at_choice : (j : ℕ) → may_choice s j ≡ true → Rest (after_choice r.scale s) is y
+    front-choice : (j : ℕ) → may_choice s j ≡ true → Rest (after_choice r.scale s) is y
         → (os : List (List SpelledMove)) × (t : Tree) × (item.Choice j ∷ is ≡ options_left s os t) × (1 ≤ length os)
         × Ahead s y 0 os t
-    at_choice j may x =
+    front-choice j may x =
         let ms = x.0 in
         let os = x.1 in
         let t = x.2 in
         let a = x.4.3 in
-        let parts = and_parts (at_phase s.phase phase.State || at_phase s.phase phase.Weight) _ may in
+        let parts = and_parts (at_state s.phase || at_weight s.phase) _ may in
         let same : j ≡ s.options - s.before = eqb-true j (s.options - s.before) parts.1 in
         let next : s.options + 1 - s.before ≡ s.options - s.before + 1 = omega arith in
         let long = length-append ms (joined os) in
@@ -228,10 +209,10 @@ module _ (r : Rules) where
           },
         )
 
-    at-to : (p : Spelled) → exists s.states p ≡ true → Rest (after_to s p) is y
+    front-to : (p : Spelled) → exists s.states p ≡ true → Rest (after_to s p) is y
         → (ms : List SpelledMove) × (os : List (List SpelledMove)) × (t : Tree) × (1 ≤ length ms)
         × MovesAhead s (item.To p ∷ is) y ms os t
-    at-to p found x =
+    front-to p found x =
         let ms = x.1 in
         let one : SpelledMove = record { to = p; weight = x.0 } in
         let same : s.moves + 1 + length ms ≡ s.moves + length (one ∷ ms) = omega arith in
@@ -256,66 +237,62 @@ module _ (r : Rules) where
           each_state = tt;
         }
 
-    before : (i : Item) (z : Progress) → Taken r s i z → Rest z is y → Rest s (i ∷ is) y
-    before item.Kind z t x =
-        let u : Rest (after_kind s) is y = subst (λ q. Rest q is y) (sym t.1) x in
-        by phase.Start (item.Kind ∷ is) t.0 (u.0, u.1, ap (λ l. item.Kind ∷ l) u.2, u.3, u.4)
-    before (item.States n) z t x =
-        let u : Rest (after_states s n) is y = subst (λ q. Rest q is y) (sym t.3) x in
-        let small = between-says 1 4096 n t.1 in
-        by phase.Kind (item.States n ∷ is) t.0
-        (n, u.0, ap (λ l. item.States n ∷ l) u.1, (small.0, small.1, leb-true n r.states t.2), u.2)
-    before (item.State k) z t x =
-        let u = at-state k t.0 (subst (λ q. Rest q is y) (sym t.2) x) in
-        let may = (and_parts (at_phase s.phase phase.States || at_phase s.phase phase.Weight) _ t.0).0 in
-        ⊎_elim (λ p. by phase.States (item.State k ∷ is) p u)
-        (λ p. by phase.Weight (item.State k ∷ is) p ([], [], u.0, (u.1, full s p t.1, tt, u.2)))
-        (or_cases (at_phase s.phase phase.States) (at_phase s.phase phase.Weight) may)
-    before (item.Choice j) z t x =
-        let u = at_choice j t.0 (subst (λ q. Rest q is y) (sym t.3) x) in
-        let may = (and_parts (at_phase s.phase phase.State || at_phase s.phase phase.Weight) _ t.0).0 in
-        ⊎_elim (λ p. by phase.State (item.Choice j ∷ is) p u)
-        (λ p. by phase.Weight (item.Choice j ∷ is) p ([], u.0, u.1, (u.2, full s p t.2, tt, u.4)))
-        (or_cases (at_phase s.phase phase.State) (at_phase s.phase phase.Weight) may)
-    before (item.To p) z t x =
-        let u = at-to p t.1 (subst (λ q. Rest q is y) (sym t.3) x) in
-        ⊎_elim (λ q. by phase.Choice (item.To p ∷ is) q u)
-        (λ q. by phase.Weight (item.To p ∷ is) q (u.0, u.1, u.2, u.4))
-        (or_cases (at_phase s.phase phase.Choice) (at_phase s.phase phase.Weight) t.0)
-    before (item.Weight w) z t x =
-        let u : Rest (after_weight s w) is y = subst (λ q. Rest q is y) (sym t.2) x in
+    before : (i : Item) → Asks r s i → Rest (after_item r s i) is y → Rest s (i ∷ is) y
+    before item.Kind a u = by 0 (item.Kind ∷ is) a (u.0, u.1, ap (λ l. item.Kind ∷ l) u.2, u.3, u.4)
+    before (item.States n) a u =
+        let small = between-says 1 4096 n a.1 in
+        by 1 (item.States n ∷ is) a.0
+        (n, u.0, ap (λ l. item.States n ∷ l) u.1, (small.0, small.1, leb-true n r.states a.2), u.2)
+    before (item.State k) a x =
+        let u = front-state k a.0 x in
+        let may = (and_parts (at_states s.phase || at_weight s.phase) _ a.0).0 in
+        ⊎_elim (λ p. by 2 (item.State k ∷ is) p u)
+        (λ p. by 6 (item.State k ∷ is) p ([], [], u.0, (u.1, full s p a.1, tt, u.2)))
+        (or_cases (at_states s.phase) (at_weight s.phase) may)
+    before (item.Choice j) a x =
+        let u = front-choice j a.0 x in
+        let may = (and_parts (at_state s.phase || at_weight s.phase) _ a.0).0 in
+        ⊎_elim (λ p. by 3 (item.Choice j ∷ is) p u)
+        (λ p. by 6 (item.Choice j ∷ is) p ([], u.0, u.1, (u.2, full s p a.2, tt, u.4)))
+        (or_cases (at_state s.phase) (at_weight s.phase) may)
+    before (item.To p) a x =
+        let u = front-to p a.1 x in
+        ⊎_elim (λ q. by 4 (item.To p ∷ is) q u)
+        (λ q. by 6 (item.To p ∷ is) q (u.0, u.1, u.2, u.4))
+        (or_cases (at_choice s.phase) (at_weight s.phase) a.0)
+    before (item.Weight w) a u =
         let m = u.3 in
-        by phase.To (item.Weight w ∷ is) t.0 (
+        by 5 (item.Weight w ∷ is) a.0 (
           w,
           u.0,
           u.1,
           u.2,
           ap (λ l. item.Weight w ∷ l) m.0,
-          was_lacking s.lacks w (weights (map move_of u.0)) m.1,
+          was_lacking (lacks_at s.phase) w (weights (map move_of u.0)) m.1,
           m.2,
           m.3,
         )
-    before item.End z t x =
-        let u : Rest (after_end s) is y = subst (λ q. Rest q is y) (sym t.2) x in
-        let may = and_parts (at_phase s.phase phase.Weight) (eqb s.begun s.states) t.0 in
-        let a = subst (λ q. Ahead s q 0 [] []) u.1 (ahead_none (eqb-true s.begun s.states may.1)) in
-        by phase.Weight (item.End ∷ is) may.0
-        ([], [], [], (ap (λ l. item.End ∷ l) u.0, full s may.0 t.1, tt, a))
-    before item.Other z t x = absurd t
+    before item.End a u =
+        let may = and_parts (at_weight s.phase) (eqb s.begun s.states) a.0 in
+        let none = subst (λ q. Ahead s q 0 [] []) u.1 (ahead_none (eqb-true s.begun s.states may.1)) in
+        by 6 (item.End ∷ is) may.0 ([], [], [], (ap (λ l. item.End ∷ l) u.0, full s may.0 a.1, tt, none))
+    before item.Other a u = absurd a
 
   run_more : (s : Progress) (at : ℕ) (i : Item) (is : List Item) (y : Progress) → Counted r s
       → ((z : Progress) → Counted r z → run r z (at + 1) is ≡ Ok y → Rest z is y)
       → (v : Result Progress Telling) → on_item r s at i ≡ v → then v (λ z. run r z (at + 1) is) ≡ Ok y
       → Rest s (i ∷ is) y
-  run_more s at i is y h rest (Err f) g e = err_ok f y e
+  run_more s at i is y h rest (Err f) g e = cc
   run_more s at i is y h rest (Ok z) g e =
-      let t = taken r s at i z g in before s h is y i z t (rest z (counted r s i z t h) e)
+      let t = taken r s at i z g in
+      before s h is y i t.0
+      (rest (after_item r s i) (counted r s i t.0 h) (ap (λ z. run r z (at + 1) is) t.1 ∙ e))
 
   run_rest : (is : List Item) (s : Progress) (at : ℕ) (y : Progress) → Counted r s → run r s at is ≡ Ok y → Rest s is y
   run_rest [] s at y h e =
-      let b = at_phase s.phase phase.End in
-      ⊎_elim (λ t. by s h [] y phase.End [] t (refl, same_ok s y (sym (cond-true b (Ok s) _ t) ∙ e)))
-      (λ t. err_ok (at_text 12 at) y (sym (cond-false b (Ok s) (Err (at_text 12 at)) t) ∙ e)) (cases_Bool b)
+      let b = at_end s.phase in
+      ⊎_elim (λ t. let f = cond-true b (Ok s) (Err (at_text 12 at)) t in by s h [] y 7 [] t (refl, cc))
+      (λ t. let f = cond-false b (Ok s) (Err (at_text 12 at)) t in cc) (cases_Bool b)
   run_rest (i ∷ is) s at y h e =
       run_more s at i is y h (λ z k f. run_rest is z (at + 1) y k f) (on_item r s at i) refl e
 

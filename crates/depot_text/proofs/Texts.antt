@@ -1,9 +1,10 @@
 -- An accepted text is the lines of its items, one after the other, and those lines are read as their items.
-use Rattle.std.proofs.Common.{◌≡◌, ℕ, ◌+◌, ◌^◌, ◌<◌, true, ◌&&◌, List, [], ◌∷◌, ◌++◌, map, is_ok, Some, None, Ok, Err, codes, decimal, Option, Result, sym, refl, ap, ◌∙◌, subst, inl, inr, arith, length-append}
+use Rattle.std.proofs.Common.{◌≡◌, ℕ, ◌+◌, ◌^◌, ◌<◌, true, ◌&&◌, List, [], ◌∷◌, ◌++◌, map, Some, None, Ok, Err, codes, decimal, Option, Result, sym, refl, ap, ◌∙◌, subst, inl, inr, arith, length-append}
 use Rattle.std.specs.List.{flat_map as written_all, AllByRecursion as Every}
 use Rattle.std.specs.Str.{bytes_eq}
+use Rattle.std.proofs.lemmas.List.Folds.{flat_map-map}
 use Rattle.std.proofs.lemmas.Slice.Eq.{bytes_eq-Decides}
-use Rattle.std.proofs.lemmas.Bool.{cond-true, cond-false, cond_both, cases_Bool, and_parts, eqb-true, false≢true}
+use Rattle.std.proofs.lemmas.Bool.{cond-true, cond-false, cond_both, cases_Bool, and_parts, eqb-true}
 use Rattle.refusal.specs.Tellings.{Telling, at_text}
 use Rattle.encoding.specs.Lists.{Lists}
 use Rattle.lines.specs.Lines.{Said, says_word, says_number, parsed}
@@ -20,9 +21,9 @@ use Rattle.depot_text.specs.declared.progress.Progress.{Progress}
 use Rattle.depot_text.specs.declared.progress.Depot.{Depot}
 use Rattle.depot_text.specs.Items.{word_item, number_item, item_of}
 use Rattle.depot_text.specs.Machine.{phase_number, on_item, start}
-use Rattle.depot_text.specs.Loading.{depot, onto, next, ended, puts, beginning, nothing_after, read}
+use Rattle.depot_text.specs.Loading.{depot, onto, next, ended, puts, rules_of, beginning, nothing_after, read}
 use Rattle.depot_text.specs.Spelling.{says}
-use Rattle.depot_text.proofs.Runs.{run, onward, wrote, rules_of, ProperItem}
+use Rattle.depot_text.proofs.Runs.{run, onward, wrote, ProperItem}
 
 -- what an item's line says is proper, and means the item
 pub says-proper : (i : Item) → ProperItem i → Proper (says i)
@@ -53,9 +54,6 @@ means_says item.Other h = absurd h
 abbrev Means : Said → Item → Type 0
 Means s i = (i ≡ item.Other → ⊥) → (s ≡ says i) × ProperItem i
 
-bytes_same : (a b : List ℕ) → bytes_eq a b ≡ true → a ≡ b
-bytes_same a b t = (bytes_eq-Decides a b).0 t
-
 word_means : (key v : List ℕ) → Means (says_word key v) (word_item key v)
 word_means key v =
     cond_both _ item.Kind _ P (λ t _. (both (codes "kind") (codes "depot") t, tt))
@@ -70,7 +68,7 @@ word_means key v =
     both : (k w : List ℕ) → (bytes_eq key k && bytes_eq v w) ≡ true → says_word key v ≡ says_word k w
     both k w t =
         let p = and_parts (bytes_eq key k) (bytes_eq v w) t in
-        λ i. says_word (bytes_same key k p.0 i) (bytes_same v w p.1 i)
+        λ i. says_word ((bytes_eq-Decides key k).0 p.0 i) ((bytes_eq-Decides v w).0 p.1 i)
 
 number_means : (key : List ℕ) (n : ℕ) → n < 2 ^ 32 → Means (says_number key (decimal n) n) (number_item key n)
 number_means key n h =
@@ -84,7 +82,7 @@ number_means key n h =
     P i = Means (says_number key (decimal n) n) i
 
     one : (k : List ℕ) → bytes_eq key k ≡ true → says_number key (decimal n) n ≡ says_number k (decimal n) n
-    one k t = ap (λ x. says_number x (decimal n) n) (bytes_same key k t)
+    one k t = ap (λ x. says_number x (decimal n) n) ((bytes_eq-Decides key k).0 t)
 
 pub said_item : (s : Said) → Proper s → (item_of s ≡ item.Other → ⊥) → (s ≡ says (item_of s)) × ProperItem (item_of s)
 said_item (says_word key v) h = word_means key v
@@ -106,12 +104,8 @@ lines_items (i ∷ is) h =
     ∙ (λ k. first-written (says i) rest proper k ∷ lines (after-written (says i) rest proper k))
     ∙ ap (λ ls. line i ∷ ls) (lines_items is h.1)
 
-joined-map : (is : List Item) → written_all (λ (l : List ℕ). l) (map line is) ≡ written_all (λ i. written (says i)) is
-joined-map [] = refl
-joined-map (i ∷ is) = ap (λ t. line i ++ t) (joined-map is)
-
 text_of_items : (t : List ℕ) (is : List Item) → lines t ≡ map line is → t ≡ written_all (λ i. written (says i)) is
-text_of_items t is e = sym (lines-whole t) ∙ ap (written_all (λ l. l)) e ∙ joined-map is
+text_of_items t is e = sym (lines-whole t) ∙ ap (written_all (λ l. l)) e ∙ flat_map-map (λ l. l) line is
 
 -- after the end every item is refused
 over : (r : Rules) (s : Progress) (at : ℕ) (i : Item) → phase_number s.phase ≡ 7 → on_item r s at i ≡ Err (at_text 12 at)
@@ -137,13 +131,10 @@ reads_on m at ls = then (pass next ended m at ls) no_more
 pub parsed_line : (i : Item) → ProperItem i → parsed (line i) ≡ Some (says i)
 parsed_line i h = parsed-written (says i) (says-proper i h)
 
-none_ok : {A B : Type 0} (e : Telling) (y : B) → ◌≡◌ {A = Result B Telling} (Err e) (Ok y) → A
-none_ok e y h = absurd (false≢true (ap is_ok h))
-
 -- after the end every line is refused
 no_line : {A : Type 0} (s m : Depot) (at : ℕ) (o : Option Said) → on_said (λ m at x. Err (at_text 12 at)) s at o ≡ Ok m → A
-no_line s m at None e = none_ok (at_text 11 at) m e
-no_line s m at (Some x) e = none_ok (at_text 12 at) m e
+no_line s m at None e = cc
+no_line s m at (Some x) e = cc
 
 module _ (r : Rules) where
   -- the lines of proper items are read as these items
@@ -212,17 +203,17 @@ module _ (r : Rules) where
       (more : (s' : Progress) → reads_on (depot r s') (at + 1) ls ≡ Ok m → Items ls) where
     one_item : (x : Said) (v : Result Progress Telling) → parsed l ≡ Some x → on_item r s at (item_of x) ≡ v
         → then (then (onto r v) (λ m'. pass next ended m' (at + 1) ls)) no_more ≡ Ok m → Items (l ∷ ls)
-    one_item x (Err f) p g e = none_ok f m e
+    one_item x (Err f) p g e = cc
     one_item x (Ok s') p g e =
         let q = more s' e in
         let w = parsed-proper l x p in
-        let z = said_item x w.0 (λ o. none_ok (at_text 12 at) s' (sym (ap (on_item r s at) o) ∙ g)) in
+        let z = said_item x w.0 (λ o. let f = ap (on_item r s at) o in cc) in
         (item_of x ∷ q.0, (λ i. (w.1 ∙ ap written z.0) i ∷ q.1 i), (z.1, q.2))
 
     some_item : (o : Option Said) → parsed l ≡ o
         → then (then (on_said next (depot r s) at o) (λ m'. pass next ended m' (at + 1) ls)) no_more ≡ Ok m
         → Items (l ∷ ls)
-    some_item None p e = none_ok (at_text 11 at) m e
+    some_item None p e = cc
     some_item (Some x) p e = one_item x (on_item r s at (item_of x)) p refl e
 
   items_of_lines : (s : Progress) (at : ℕ) (ls : List (List ℕ)) (m : Depot) → reads_on (depot r s) at ls ≡ Ok m → Items ls
@@ -242,7 +233,7 @@ module _ (r : Rules) where
       let same : depot r s ≡ m = cc in
       subst (λ x. (◌≡◌ {A = Result Progress Telling} (Ok s) (Ok x.progress)) × (x ≡ depot r x.progress)) same
       (refl, refl)
-  ran (Err f) m e = none_ok f m e
+  ran (Err f) m e = cc
 
 module _ (d first : ℕ) where
   pub items_of_read : (t : List ℕ) (l : Lists) (m : Depot) → read d first t l ≡ Ok m

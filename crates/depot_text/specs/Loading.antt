@@ -18,7 +18,7 @@ use Rattle.depot_text.specs.declared.progress.Rules.{Rules}
 use Rattle.depot_text.specs.declared.progress.Progress.{Progress}
 use Rattle.depot_text.specs.declared.progress.Depot.{Depot}
 use Rattle.depot_text.specs.Items.{item_of}
-use Rattle.depot_text.specs.Machine.{at_phase, on_item, start}
+use Rattle.depot_text.specs.Machine.{at_end, on_item, start}
 
 -- the place that a spelling means
 abbrev pub place_of : Spelled → Place
@@ -37,7 +37,7 @@ abbrev pub next : Depot → ℕ → Said → Result Depot Telling
 next m at x = onto m.rules (on_item m.rules m.progress at (item_of x))
 
 abbrev pub ended : Depot → Bool
-ended m = at_phase m.progress.phase phase.End
+ended m = at_end m.progress.phase
 
 -- what the line read last puts into the lists
 abbrev pub put_at : Phase → Progress → Lists → Lists
@@ -45,11 +45,11 @@ put_at phase.Start s l = l
 put_at phase.Kind s l = l
 put_at phase.States s l = l
 put_at phase.State s l = lists (slice_set l.option_starts (s.begun - 1) s.options) l.move_starts l.moves
-put_at phase.Choice s l = lists l.option_starts (slice_set l.move_starts (s.options - 1) s.moves) l.moves
-put_at phase.To s l = l
-put_at phase.Weight s l =
+put_at (phase.Choice k) s l = lists l.option_starts (slice_set l.move_starts (s.options - 1) s.moves) l.moves
+put_at (phase.To p k) s l = l
+put_at (phase.Weight p w k) s l =
     lists l.option_starts l.move_starts
-    (slice_set (slice_set l.moves (2 * (s.moves - 1)) (place_number (place_of s.place))) (2 * (s.moves - 1) + 1) s.weight)
+    (slice_set (slice_set l.moves (2 * (s.moves - 1)) (place_number (place_of p))) (2 * (s.moves - 1) + 1) w)
 put_at phase.End s l =
     lists (slice_set l.option_starts s.begun s.options) (slice_set l.move_starts s.options s.moves) l.moves
 
@@ -57,20 +57,17 @@ abbrev pub puts : Depot → Lists → Lists
 puts m l = put_at m.progress.phase m.progress l
 
 -- the limits, and what the lent lists hold
-abbrev pub rules_for : ℕ → ℕ → ℕ → ℕ → Rules
-rules_for d options starts moves =
+abbrev pub rules_of : ℕ → Lists → Rules
+rules_of d l =
     record {
       scale = d;
-      states = min (options - 1) 4096;
-      options = min (starts - 1) 16384;
-      moves = min (moves / 2) 65536;
+      states = min (length l.option_starts - 1) 4096;
+      options = min (length l.move_starts - 1) 16384;
+      moves = min (length l.moves / 2) 65536;
     }
 
-abbrev pub beginning_for : ℕ → ℕ → ℕ → ℕ → Depot
-beginning_for d options starts moves = depot (rules_for d options starts moves) start
-
 abbrev pub beginning : ℕ → Lists → Depot
-beginning d l = beginning_for d (length l.option_starts) (length l.move_starts) (length l.moves)
+beginning d l = depot (rules_of d l) start
 
 -- a line after the end may not come
 abbrev pub nothing_after : Depot → ℕ → List (List ℕ) → Result Depot Telling

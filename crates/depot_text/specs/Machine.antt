@@ -17,13 +17,46 @@ phase_number phase.Start = 0
 phase_number phase.Kind = 1
 phase_number phase.States = 2
 phase_number phase.State = 3
-phase_number phase.Choice = 4
-phase_number phase.To = 5
-phase_number phase.Weight = 6
+phase_number (phase.Choice k) = 4
+phase_number (phase.To p k) = 5
+phase_number (phase.Weight p w k) = 6
 phase_number phase.End = 7
 
-abbrev pub at_phase : Phase → Phase → Bool
-at_phase a b = phase_number a == phase_number b
+abbrev pub at_start : Phase → Bool
+at_start p = phase_number p == 0
+
+abbrev pub at_kind : Phase → Bool
+at_kind p = phase_number p == 1
+
+abbrev pub at_states : Phase → Bool
+at_states p = phase_number p == 2
+
+abbrev pub at_state : Phase → Bool
+at_state p = phase_number p == 3
+
+abbrev pub at_choice : Phase → Bool
+at_choice p = phase_number p == 4
+
+abbrev pub at_to : Phase → Bool
+at_to p = phase_number p == 5
+
+abbrev pub at_weight : Phase → Bool
+at_weight p = phase_number p == 6
+
+abbrev pub at_end : Phase → Bool
+at_end p = phase_number p == 7
+
+-- the place of the last move, and what the weights of the last option lack of the scale
+abbrev pub place_at : Phase → Spelled
+place_at (phase.To p k) = p
+place_at (phase.Weight p w k) = p
+place_at p = spelled.Exit
+
+abbrev pub lacks_at : Phase → Option ℕ
+lacks_at (phase.Choice k) = k
+lacks_at (phase.To p k) = k
+lacks_at (phase.Weight p w k) = k
+lacks_at p = None
 
 -- what is lacking after a weight, and whether nothing is
 abbrev pub lacking : Option ℕ → ℕ → Option ℕ
@@ -36,7 +69,7 @@ made_up (Some rest) = rest == 0
 
 -- the weights of the last option, if one is complete, make the scale
 abbrev pub closed : Progress → Bool
-closed s = cond (at_phase s.phase phase.Weight) (made_up s.lacks) true
+closed s = cond (at_weight s.phase) (made_up (lacks_at s.phase)) true
 
 abbrev pub exists : ℕ → Spelled → Bool
 exists n (spelled.State k) = nat_lt k n
@@ -53,9 +86,6 @@ after_kind s =
       before = s.before;
       options = s.options;
       moves = s.moves;
-      lacks = s.lacks;
-      place = s.place;
-      weight = s.weight;
     }
 
 abbrev pub after_states : Progress → ℕ → Progress
@@ -67,9 +97,6 @@ after_states s n =
       before = s.before;
       options = s.options;
       moves = s.moves;
-      lacks = s.lacks;
-      place = s.place;
-      weight = s.weight;
     }
 
 abbrev pub after_state : Progress → ℕ → Progress
@@ -81,51 +108,39 @@ after_state s k =
       before = s.options;
       options = s.options;
       moves = s.moves;
-      lacks = s.lacks;
-      place = s.place;
-      weight = s.weight;
     }
 
 abbrev pub after_choice : ℕ → Progress → Progress
 after_choice d s =
     record {
-      phase = phase.Choice;
+      phase = phase.Choice (Some d);
       states = s.states;
       begun = s.begun;
       before = s.before;
       options = s.options + 1;
       moves = s.moves;
-      lacks = Some d;
-      place = s.place;
-      weight = s.weight;
     }
 
 abbrev pub after_to : Progress → Spelled → Progress
 after_to s p =
     record {
-      phase = phase.To;
+      phase = phase.To p (lacks_at s.phase);
       states = s.states;
       begun = s.begun;
       before = s.before;
       options = s.options;
       moves = s.moves + 1;
-      lacks = s.lacks;
-      place = p;
-      weight = s.weight;
     }
 
 abbrev pub after_weight : Progress → ℕ → Progress
 after_weight s w =
     record {
-      phase = phase.Weight;
+      phase = phase.Weight (place_at s.phase) w (lacking (lacks_at s.phase) w);
       states = s.states;
       begun = s.begun;
       before = s.before;
       options = s.options;
       moves = s.moves;
-      lacks = lacking s.lacks w;
-      place = s.place;
-      weight = w;
     }
 
 abbrev pub after_end : Progress → Progress
@@ -137,32 +152,29 @@ after_end s =
       before = s.before;
       options = s.options;
       moves = s.moves;
-      lacks = s.lacks;
-      place = s.place;
-      weight = s.weight;
     }
 
 -- whether a line may come next
 abbrev pub may_state : Progress → ℕ → Bool
 may_state s k =
-    (at_phase s.phase phase.States || at_phase s.phase phase.Weight) && (k == s.begun && nat_lt k s.states)
+    (at_states s.phase || at_weight s.phase) && (k == s.begun && nat_lt k s.states)
 
 abbrev pub may_choice : Progress → ℕ → Bool
 may_choice s j =
-    (at_phase s.phase phase.State || at_phase s.phase phase.Weight) && j == s.options - s.before
+    (at_state s.phase || at_weight s.phase) && j == s.options - s.before
 
 abbrev pub may_to : Progress → Bool
-may_to s = at_phase s.phase phase.Choice || at_phase s.phase phase.Weight
+may_to s = at_choice s.phase || at_weight s.phase
 
 abbrev pub may_end : Progress → Bool
-may_end s = at_phase s.phase phase.Weight && s.begun == s.states
+may_end s = at_weight s.phase && s.begun == s.states
 
 abbrev pub on_kind : Progress → ℕ → Result Progress Telling
-on_kind s at = demand (at_phase s.phase phase.Start) 12 at (Ok (after_kind s))
+on_kind s at = demand (at_start s.phase) 12 at (Ok (after_kind s))
 
 abbrev pub on_states : Rules → Progress → ℕ → ℕ → Result Progress Telling
 on_states r s at n =
-    demand (at_phase s.phase phase.Kind) 12 at
+    demand (at_kind s.phase) 12 at
     (demand (between 1 4096 n) 13 at (demand (nat_le n r.states) 14 at (Ok (after_states s n))))
 
 abbrev pub on_state : Progress → ℕ → ℕ → Result Progress Telling
@@ -180,7 +192,7 @@ on_to r s at p =
 
 abbrev pub on_weight : Rules → Progress → ℕ → ℕ → Result Progress Telling
 on_weight r s at w =
-    demand (at_phase s.phase phase.To) 12 at (demand (nat_le w r.scale) 13 at (Ok (after_weight s w)))
+    demand (at_to s.phase) 12 at (demand (nat_le w r.scale) 13 at (Ok (after_weight s w)))
 
 abbrev pub on_end : Progress → ℕ → Result Progress Telling
 on_end s at = demand (may_end s) 12 at (demand (closed s) 15 at (Ok (after_end s)))
@@ -205,7 +217,4 @@ start =
       before = 0;
       options = 0;
       moves = 0;
-      lacks = None;
-      place = spelled.Exit;
-      weight = 0;
     }

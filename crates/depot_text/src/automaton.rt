@@ -1,24 +1,10 @@
-ghost use Rattle.std.specs.Prelude.{◌≡◌};
-ghost use Rattle.depot_text.specs.Loading.{next, ended, puts, place_of};
-ghost use Rattle.encoding.specs.Writing.{place_number};
+ghost use Rattle.depot_text.specs.Loading.{next, ended, puts};
 
-use crate::item::Spelled;
+use crate::item::Item;
 use crate::progress::{Depot, Phase};
-use crate::steps::{is_at, item_of, on_item};
 use lines::Line;
 use passes::{Automaton, Lent, write_at};
 use refusal::Refusal;
-
-// the number that the lists use for a place
-fn number_of(place: Spelled) -> u32
-    ensures { result ≡ place_number (place_of place) }
-{
-    match place {
-        Spelled::State(state) => state,
-        Spelled::Target => 4096,
-        Spelled::Exit => 4097,
-    }
-}
 
 impl Automaton for Depot {
     ghost next = { next };
@@ -28,38 +14,36 @@ impl Automaton for Depot {
     ghost puts = { puts };
 
     fn step(self, line: Line<'_>) -> Result<Depot, Refusal> {
-        let progress = on_item(&self.rules, self.progress, line.at(), item_of(line))?;
-        Ok(Depot {
-            rules: self.rules,
-            progress,
-        })
+        let progress = self.on_item(line.at(), Item::from(line))?;
+        Ok(Depot { progress, ..self })
     }
 
     fn has_ended(&self) -> bool {
-        is_at(&self.progress, Phase::End)
+        self.progress.phase == Phase::End
     }
 
-    fn put(&self, lists: &mut Lent<'_>) {
+    fn put(&self, lists: Lent<'_>) {
         let s = self.progress;
+        let Lent {
+            options,
+            starts,
+            moves,
+        } = lists;
         match s.phase {
-            Phase::State => write_at(
-                lists.options,
-                (s.begun as usize).saturating_sub(1),
-                s.options,
-            ),
-            Phase::Choice => write_at(
-                lists.starts,
+            Phase::State => write_at(options, (s.begun as usize).saturating_sub(1), s.options),
+            Phase::Choice { .. } => write_at(
+                starts,
                 (s.options as usize).saturating_sub(1),
                 s.moves,
             ),
-            Phase::Weight => {
+            Phase::Weight { place, weight, .. } => {
                 let index = 2 * (s.moves as usize).saturating_sub(1);
-                write_at(lists.moves, index, number_of(s.place));
-                write_at(lists.moves, index + 1, s.weight);
+                write_at(moves, index, u32::from(place));
+                write_at(moves, index + 1, weight);
             }
             Phase::End => {
-                write_at(lists.options, s.begun as usize, s.options);
-                write_at(lists.starts, s.options as usize, s.moves);
+                write_at(options, s.begun as usize, s.options);
+                write_at(starts, s.options as usize, s.moves);
             }
             _ => {}
         }

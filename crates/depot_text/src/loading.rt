@@ -1,29 +1,27 @@
 ghost use Rattle.std.specs.Prelude.{◌≡◌};
 ghost use Rattle.refusal.specs.Tellings.{told};
-ghost use Rattle.encoding.specs.Lists.{lists as three};
 ghost use Rattle.passes.specs.Texts.{lines as lines_of};
-ghost use Rattle.passes.specs.View.{view};
-ghost use Rattle.depot_text.specs.Loading.{beginning_for, nothing_after, size as size_of, read, answer, left};
+ghost use Rattle.passes.specs.View.{view, left as returned};
+ghost use Rattle.depot_text.specs.Loading.{beginning, nothing_after, size as size_of, answer, left};
 ghost use Rattle.depot_text.specs.Spelling.{LoadedAsSpelled};
 
-use crate::item::Spelled;
 use crate::progress::{Depot, Phase, Progress, Rules};
-use lines::read_line;
+use lines::Text;
 use passes::{Lent, pass};
 use process::Size;
 use refusal::Refusal;
 
 impl Depot {
-    // the beginning of a text of some scale, for lists of these lengths
-    fn new(scale: u32, options: usize, starts: usize, moves: usize) -> Depot
-        ensures { result ≡ beginning_for scale options starts moves }
+    // the beginning of a text of some scale, for these lists
+    fn new(scale: u32, lists: &Lent<'_>) -> Depot
+        ensures { result ≡ beginning scale (view lists.now) }
     {
         Depot {
             rules: Rules {
                 scale,
-                states: options.saturating_sub(1).min(4096) as u32,
-                options: starts.saturating_sub(1).min(16384) as u32,
-                moves: (moves / 2).min(65536) as u32,
+                states: lists.options.len().saturating_sub(1).min(4096) as u32,
+                options: lists.starts.len().saturating_sub(1).min(16384) as u32,
+                moves: (lists.moves.len() / 2).min(65536) as u32,
             },
             progress: Progress {
                 phase: Phase::Start,
@@ -32,9 +30,6 @@ impl Depot {
                 before: 0,
                 options: 0,
                 moves: 0,
-                lacks: None,
-                place: Spelled::Exit,
-                weight: 0,
             },
         }
     }
@@ -51,68 +46,41 @@ impl Depot {
 }
 
 // a depot text ends with its end: a further line is refused
-fn check_end(depot: Depot, at: usize, rest: &[u8]) -> Result<Depot, Refusal>
-    ensures { told result ≡ nothing_after depot at (lines_of rest.now) }
+#[tactic(auto, using(crate::proofs::Ends::after_end))]
+fn check_end(depot: Depot, text: Text<'_>) -> Result<Depot, Refusal>
+    ensures { told result ≡ nothing_after depot text.entry.at (lines_of text.entry.rest.now) }
 {
-    if rest.len() == 0 {
+    if text.is_empty() {
         return Ok(depot);
     }
-    let _read = read_line(at, rest)?;
-    Err(Refusal::TextOrder(at))
-}
-
-// the whole text is checked before anything is written
-fn fill(scale: u32, first: u32, text: &[u8], lists: &mut Lent<'_>) -> Result<Depot, Refusal>
-    ensures answer { told result ≡ read scale first text.now (view lists.old) }
-    ensures lists { view lists.new ≡ left scale first text.now (view lists.old) }
-    ensures options { lists.new.options.ghost_name ≡ lists.old.options.ghost_name }
-    ensures starts { lists.new.starts.ghost_name ≡ lists.old.starts.ghost_name }
-    ensures moves { lists.new.moves.ghost_name ≡ lists.old.moves.ghost_name }
-{
-    let depot = Depot::new(
-        scale,
-        lists.options.len(),
-        lists.starts.len(),
-        lists.moves.len(),
-    );
-    let passed = pass(depot, first, text, false, lists)?;
-    let whole = check_end(passed.state, passed.at, passed.rest)?;
-    let _ = pass(depot, first, text, true, lists);
-    Ok(whole)
-}
-
-// a text of some scale, its first line having a number, into three lists
-fn load_at(
-    scale: u32,
-    first: u32,
-    text: &[u8],
-    options: &mut [u32],
-    starts: &mut [u32],
-    moves: &mut [u32],
-) -> Result<Size, Refusal>
-    ensures answer { told result ≡ answer scale first text.now (three options.old starts.old moves.old) }
-    ensures lists { three options.new starts.new moves.new ≡ left scale first text.now (three options.old starts.old moves.old) }
-{
-    let mut lists = Lent {
-        options,
-        starts,
-        moves,
-    };
-    let depot = fill(scale, first, text, &mut lists)?;
-    Ok(depot.size())
+    let _ = text.read_line()?;
+    Err(Refusal::TextOrder(text.at()))
 }
 
 // Reads a depot from its text into three lists: option starts, move starts, and the place and weight of each move.
 // Numbers past those that it needs stay; after a refusal all three are as they were.
-pub fn load(
-    text: &[u8],
-    options: &mut [u32],
-    starts: &mut [u32],
-    moves: &mut [u32],
-) -> Result<Size, Refusal>
-    ensures answer { told result ≡ answer 1000 1 text.now (three options.old starts.old moves.old) }
-    ensures lists { three options.new starts.new moves.new ≡ left 1000 1 text.now (three options.old starts.old moves.old) }
-    ensures spelled { LoadedAsSpelled 1000 text.now (three options.old starts.old moves.old) (told result) (three options.new starts.new moves.new) }
+#[tactic(auto, using(crate::proofs::Law::loaded_by))]
+pub fn load(text: &[u8], lists: Lent<'_>) -> Result<Size, Refusal>
+    ensures answer { told result ≡ answer 1000 1 text.now (view lists.entry) }
+    ensures lists { returned lists.exit ≡ left 1000 1 text.now (view lists.entry) }
+    ensures spelled { LoadedAsSpelled 1000 text.now (view lists.entry) (told result) (returned lists.exit) }
 {
-    load_at(1000, 1, text, options, starts, moves)
+    let depot = Depot::new(1000, &lists);
+    // kept: what lists hold after they were handed on whole did not prove, so they are taken apart first
+    let Lent {
+        options,
+        starts,
+        moves,
+    } = lists;
+    let lent = Lent {
+        options,
+        starts,
+        moves,
+    };
+    let text = Text::new(1, text);
+    // the whole text is checked before anything is written
+    let passed = pass(depot, text, Lent::default())?;
+    let whole = check_end(passed.state, passed.text)?;
+    let _ = pass(depot, text, lent);
+    Ok(whole.size())
 }

@@ -1,4 +1,5 @@
 pub mod Lists
+pub mod Lent
 pub mod Reading
 pub mod Writing
 pub mod Answers

@@ -7,11 +7,11 @@ use Rattle.std.proofs.ByRecursion.{All-get_or, All-from_get_or}
 use Rattle.std.proofs.lemmas.Bool.{eqb-true, eq-eqb}
 use Rattle.refusal.specs.declared.reason.Refusal.{Refusal}
 use Rattle.refusal.specs.Tellings.{Telling, at_vector, told}
-use Rattle.refusal.specs.Tests.{first_bad, first_false, FirstFailure, unless}
+use Rattle.refusal.specs.Tests.{first_bad, FirstFailure, unless}
 use Rattle.refusal.proofs.Tests.{all_hold, hold_all, bad_first, unless_ok, ok_unless, unless_err, unless_here, told_ok}
 use Rattle.process.specs.Process.{Process, joined}
 use Rattle.bounds.specs.Vectors.{value_at, one_at, inflow, own}
-use Rattle.vectors.proofs.Accepting.{decides_leb, levels_pass, pass_levels, levels_err}
+use Rattle.vectors.proofs.Accepting.{decides_leb, levels_pass, pass_levels}
 use Rattle.flows.specs.declared.flow.Flow.{Flow}
 use Rattle.kinds.specs.declared.flow_kind.FlowKind.{FlowKind}
 use Rattle.kinds.specs.declared.flow_kind.FlowKind.TheVariants.{Hope, Risk}
@@ -110,13 +110,16 @@ module _ (k : FlowKind) (d : ℕ) (p : Process) (y : List ℕ) where
             before = λ j l. rw (at j (omega arith)) at (r.2.before j l);
           }
 
-  names_after : (tests : List Bool) (r : Result Flow Telling)
-      → r ≡ unless (at_vector 41) (first_false tests) (judgement k d p y) → FirstNamed k d p y r
-  names_after tests r q =
-      record {
-        entry = λ i e. names.entry i (levels_err tests (judgement k d p y) 42 i (λ n. omega arith) (sym q ∙ e));
-        state = λ i e. names.state i (levels_err tests (judgement k d p y) 43 i (λ n. omega arith) (sym q ∙ e));
-      }
+  -- for the contract of `judge`
+  pub judgement_decides : (r : Result Flow Refusal) → told r ≡ judgement k d p y → length y ≡ length (joined p)
+      → {t : ℕ} → t ≡ length p → Decides (is_ok r) (Accepted k d p y × (t ≡ length p))
+  judgement_decides r e l q = (
+    λ o. ((judged (ap is_ok (sym e) ∙ told_ok r ∙ o) l).0, q),
+    λ h. sym (told_ok r) ∙ ap is_ok (e ∙ judges h.0),
+  )
+
+  pub judgement_names : (r : Result Flow Refusal) → told r ≡ judgement k d p y → FirstNamed k d p y (told r)
+  judgement_names r e = subst (FirstNamed k d p y) (sym e) names
 
 module _ (d : ℕ) (p : Process) (y : List ℕ) (m t : ℕ) where
   abbrev hope_long : List Bool
@@ -139,17 +142,6 @@ module _ (d : ℕ) (p : Process) (y : List ℕ) (m t : ℕ) where
       (eq-eqb (length y) (length (joined p)) h.one_each, (eq-eqb m (length p) em, (eq-eqb t (length p) et, tt)))
       ∙ judges Hope d p y h
 
-  -- for the contracts of the checks
-  pub hope_decides : (r : Result Flow Refusal) → told r ≡ hope_verdict d p y m t
-      → Decides (is_ok r) (Accepted Hope d p y × (m ≡ length p) × (t ≡ length p))
-  hope_decides r e = (
-    λ o. let h = hope-sound (ap is_ok (sym e) ∙ told_ok r ∙ o) in (h.0, h.1, h.2),
-    λ h. sym (told_ok r) ∙ ap is_ok (e ∙ hope_accepts h.0 h.1 h.2),
-  )
-
-  pub hope_names : (r : Result Flow Refusal) → told r ≡ hope_verdict d p y m t → FirstNamed Hope d p y (told r)
-  hope_names r e = names_after Hope d p y hope_long (told r) e
-
 module _ (d : ℕ) (p : Process) (y : List ℕ) (t : ℕ) where
   abbrev risk_long : List Bool
   risk_long = eqb (length y) (length (joined p)) ∷ (true ∷ (eqb t (length p) ∷ []))
@@ -166,13 +158,3 @@ module _ (d : ℕ) (p : Process) (y : List ℕ) (t : ℕ) where
       pass_levels risk_long (judgement Risk d p y)
       (eq-eqb (length y) (length (joined p)) h.one_each, (refl, (eq-eqb t (length p) et, tt)))
       ∙ judges Risk d p y h
-
-  pub risk_decides : (r : Result Flow Refusal) → told r ≡ risk_verdict d p y t
-      → Decides (is_ok r) (Accepted Risk d p y × (t ≡ length p))
-  risk_decides r e = (
-    λ o. let h = risk-sound (ap is_ok (sym e) ∙ told_ok r ∙ o) in (h.0, h.1),
-    λ h. sym (told_ok r) ∙ ap is_ok (e ∙ risk_accepts h.0 h.1),
-  )
-
-  pub risk_names : (r : Result Flow Refusal) → told r ≡ risk_verdict d p y t → FirstNamed Risk d p y (told r)
-  risk_names r e = names_after Risk d p y risk_long (told r) e

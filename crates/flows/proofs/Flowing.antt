@@ -1,14 +1,12 @@
--- Sums over options: one turn of a loop, and bounds.
-use Rattle.std.proofs.Common.{◌≡◌, ℕ, zero, suc, ◌+◌, ◌*◌, ◌^◌, ◌<◌, ◌≤◌, Bool, true, false, eqb, List, [], ◌∷◌, length, get_or, take, drop, Some, None, sum, sym, refl, ap, ◌∙◌, suc-le-suc, le_refl, add_assoc, mul_assoc, mul-le-mul_left, zero-add, mul-one, mul-add, add-one, arith, length-drop}
-use Rattle.std.specs.List.{range_with_len, AllByRecursion as Every}
-use Rattle.std.proofs.lemmas.List.{take_all, get_or-drop}
-use Rattle.std.proofs.lemmas.List.Sums.{sum_by_more}
-use Rattle.std.proofs.lemmas.List.FromFn.{length-range_with_len, get_or-range_with_len, length-map-range_with_len, get_or-map-range_with_len}
+-- Sums over moves and options: one turn of a loop, and bounds.
+use Rattle.std.proofs.Common.{◌≡◌, ℕ, zero, suc, ◌+◌, ◌*◌, ◌^◌, ◌<◌, ◌≤◌, Bool, not, eqb, List, [], ◌∷◌, length, get_or, take, drop, replicate, sym, refl, ap, ◌∙◌, suc-le-suc, le_refl, add_assoc, mul_assoc, mul-le-mul_left, zero-add, mul-one, mul-add, add-one, inl, inr, arith}
+use Rattle.std.specs.List.{find, range_with_len, AllByRecursion as Every}
+use Rattle.std.proofs.lemmas.List.{take_all, get_or-replicate, get_or-take, get_or-drop}
+use Rattle.std.proofs.lemmas.List.FromFn.{length-map-range_with_len, get_or-map-range_with_len, fill_by_all}
 use Rattle.std.proofs.lemmas.Nat.{mul-le}
 use Rattle.std.proofs.ByRecursion.{All-weaker, All-from_get_or}
-use Rattle.std.proofs.lemmas.Bool.{cond_both}
+use Rattle.std.proofs.lemmas.Bool.{cond_both, cases_Bool}
 use Rattle.refusal.specs.Tests.{first_bad}
-use Rattle.refusal.proofs.Tests.{Searched, search_on, search_found, search_ended}
 use Rattle.process.specs.declared.place.Place.{Place}
 use Rattle.process.specs.declared.place.Place.TheVariants.{State, End as Ends}
 use Rattle.process.specs.declared.place.Move.{Move}
@@ -17,24 +15,12 @@ use Rattle.process.specs.Queries.{moves_of}
 use Rattle.process.specs.Means.{mean, is_target, worth}
 use Rattle.process.proofs.Joined.{length-joined_more}
 use Rattle.process.proofs.Walks.{all_joined, joined_at, span_last}
-use Rattle.bounds.specs.Vectors.{flow, one_at}
-use Rattle.kinds.specs.declared.flow_kind.FlowKind.{FlowKind}
-use Rattle.kinds.specs.FlowKinds.{balanced}
+use Rattle.bounds.specs.Vectors.{flow, inflow, gain, one_at, weight_to, weight_to_target}
 use Rattle.flows.specs.Verdicts.{each_state}
 
-pub pour_turn : (b a t v w h A B : ℕ) → b ≡ a + v * w * h → a ≡ t + v * A → B ≡ A + w * h → b ≡ t + v * B
-pour_turn b a t v w h A B e f g = rw g (omega (arith, mul-add v A (w * h), mul_assoc v w h))
-
-pub pour_room : (a t v w h A B C n : ℕ) → a ≡ t + v * A → B ≡ A + w * h → B ≤ C → t + v * C < n → a + v * w * h < n
-pour_room a t v w h A B C n f g l r = omega (arith, pour_turn (a + v * w * h) a t v w h A B refl f g, mul-le-mul_left v l)
-
--- the same of what comes to the target, with h told by a call
-pub gain_turn : (a v w h h' A B : ℕ) → a ≡ v * A → h ≡ h' → B ≡ A + w * h' → a + v * w * h ≡ v * B
-gain_turn a v w h h' A B f q g = rw (g, q) (omega (arith, mul-add v A (w * h'), mul_assoc v w h'))
-
-pub gain_room : (a v w h h' A B : ℕ) → a ≡ v * A → h ≡ h' → B ≡ A + w * h' → v < 2 ^ 32 → B ≤ 65536 → a + v * w * h < 2 ^ 64
-gain_room a v w h h' A B f q g l b =
-    omega (arith, gain_turn a v w h h' A B f q g, mul-le v B (2 ^ 32) 65536 (omega arith) b)
+-- one move of an option that is poured at v: its weight w times h goes from what is left to what has come
+pub pour_turn : (a r v w h A B : ℕ) → a + v * A ≡ r → A ≡ w * h + B → a + v * w * h + v * B ≡ r
+pour_turn a r v w h A B f e = omega (arith, f, ap (λ (x : ℕ). v * x) e, mul-add v (w * h) B, mul_assoc v w h)
 
 -- a sum of weights is at most all of them
 pub mean_le : (f : Place → ℕ) → ((q : Place) → f q ≤ 1) → (ms : List Move) → mean f ms ≤ weights ms
@@ -49,6 +35,10 @@ pub target_le : (q : Place) → worth (λ _. 0) 1 q ≤ 1
 target_le (State s) = omega arith
 target_le (Ends q) = cond_both (is_target q) 1 0 (λ x. x ≤ 1) (λ _. omega arith) (λ _. omega arith)
 
+pub target_room : (v : ℕ) (ms : List Move) → v < 2 ^ 32 → weights ms ≤ 65536 → v * weight_to_target ms < 2 ^ 64
+target_room v ms f l =
+    omega (arith, mul-le v (weight_to_target ms) (2 ^ 32) 65536 (omega arith) (omega (arith, mean_le (worth (λ _. 0) 1) target_le ms, l)))
+
 scaled : (d : ℕ) (p : Process) (f : Place → ℕ) → Formed d p → ((q : Place) → f q ≤ 1) → Every (λ ms. mean f ms ≤ 65536) (joined p)
 scaled d p f h l =
     All-weaker (OptionFormed d (length p)) (λ ms. mean f ms ≤ 65536) (λ ms o. omega (arith, mean_le f l ms, o.sum, h.scale_limit)) (joined p) (all_joined d (length p) p h.each)
@@ -56,6 +46,18 @@ scaled d p f h l =
 pub flow-none : (f : List Move → ℕ) (y : List ℕ) → flow f y [] ≡ 0
 flow-none f [] = refl
 flow-none f (v ∷ y) = refl
+
+-- a tally part of the way: it holds what the first o options send to each state, beside what they send to the target
+pub record Poured (p : Process) (y : List ℕ) (o : ℕ) (tally : List ℕ) (gained : ℕ) : Type 0 where
+  pub inflows : (s : ℕ) → s < length tally → get_or tally s 0 ≡ flow (weight_to s) y (take o (joined p))
+  pub gain : gained ≡ flow weight_to_target y (take o (joined p))
+
+pub poured_none : (p : Process) (y tally : List ℕ) → tally ≡ replicate (length tally) 0 → Poured p y 0 tally 0
+poured_none p y tally e =
+    record {
+      inflows = λ s h. ap (λ l. get_or l s 0) e ∙ get_or-replicate (length tally) s 0 0 h ∙ sym (flow-none (weight_to s) y);
+      gain = sym (flow-none weight_to_target y);
+    }
 
 flow_more : (f : List Move → ℕ) (os : List (List Move)) (y : List ℕ) (o : ℕ) → o < length os → o < length y
     → flow f y (take (o + 1) os) ≡ flow f y (take o os) + get_or y o 0 * f (get_or os o [])
@@ -75,76 +77,100 @@ flow_bound f (ms ∷ os) [] (suc o) a b = omega arith
 flow_bound f (ms ∷ os) (v ∷ y) (suc o) a b =
     omega (arith, mul-le v (f ms) (2 ^ 32) 65536 b.0 a.0, flow_bound f os y o a.1 b.1)
 
--- sums over the first options of a process, by state and place in the state
-module _ (d : ℕ) (p : Process) (formed : Formed d p) (f : Place → ℕ) (one : (q : Place) → f q ≤ 1) (y : List ℕ)
-    (fits : (i : ℕ) → get_or y i 0 < 2 ^ 32) where
-  small : Every (λ v. v ≤ 2 ^ 32) y
-  small = All-from_get_or (λ v. v ≤ 2 ^ 32) y 0 (λ i _. omega (arith, fits i))
+small : (y : List ℕ) → ((i : ℕ) → get_or y i 0 < 2 ^ 32) → Every (λ v. v ≤ 2 ^ 32) y
+small y fits = All-from_get_or (λ v. v ≤ 2 ^ 32) y 0 (λ i _. omega (arith, fits i))
 
-  pub flow-limit : flow (mean f) y (joined p) ≤ 2 ^ 62
-  flow-limit =
+-- what a state is sent has room
+pub inflow_limit : (d : ℕ) (p : Process) → Formed d p → (y : List ℕ) → ((i : ℕ) → get_or y i 0 < 2 ^ 32)
+    → (s : ℕ) → inflow p y s ≤ 2 ^ 62
+inflow_limit d p formed y fits s =
+    omega (
+      arith,
+      formed.option_limit,
+      ap (flow (weight_to s) y) (take_all (length (joined p)) (joined p) (le_refl (length (joined p)))),
+      flow_bound (weight_to s) (joined p) y (length (joined p)) (scaled d p (worth (one_at s) 0) formed (hit_le s)) (small y fits),
+    )
+
+-- one option more, and there is room for it
+module _ (d : ℕ) (p : Process) (formed : Formed d p) (y : List ℕ) (fits : (i : ℕ) → get_or y i 0 < 2 ^ 32)
+    (s k : ℕ) (in-s : s < length p) (in-k : k < length (get_or p s [])) (all : length y ≡ length (joined p))
+    (ys : List ℕ) (e : ys ≡ take (length (get_or p s [])) (drop (length (joined (take s p))) y)) where
+  abbrev before : ℕ
+  before = length (joined (take s p)) + k
+
+  abbrev added : (List Move → ℕ) → ℕ
+  added f = get_or ys k 0 * f (moves_of p s k)
+
+  entry : get_or ys k 0 ≡ get_or y before 0
+  entry =
+      ap (λ l. get_or l k 0) e
+      ∙ get_or-take (length (get_or p s [])) (drop (length (joined (take s p))) y) k 0 in-k
+      ∙ get_or-drop (length (joined (take s p))) y k 0
+
+  option_more : (f : List Move → ℕ) → flow f y (take (before + 1) (joined p)) ≡ flow f y (take before (joined p)) + added f
+  option_more f =
+      let l : before < length (joined p) = omega (arith, span_last p s in-s) in
+      rw entry
+      (flow_more f (joined p) y before l (omega arith)
+      ∙ ap (λ (ms : List Move). flow f y (take before (joined p)) + get_or y before 0 * f ms) (joined_at p s k [] in-s in-k))
+
+  option_room : (f : Place → ℕ) → ((q : Place) → f q ≤ 1) → flow (mean f) y (take before (joined p)) + added (mean f) < 2 ^ 64
+  option_room f one =
       omega (
         arith,
         formed.option_limit,
-        ap (λ xs. flow (mean f) y xs) (take_all (length (joined p)) (joined p) (le_refl (length (joined p)))),
-        flow_bound (mean f) (joined p) y (length (joined p)) (scaled d p f formed one) small,
+        span_last p s in-s,
+        option_more (mean f),
+        flow_bound (mean f) (joined p) y (before + 1) (scaled d p f formed one) (small y fits),
       )
 
-  module _ (s k first : ℕ) (in-s : s < length p) (in-k : k < length (get_or p s [])) (all : length y ≡ length (joined p))
-      (e : first ≡ length (joined (take s p))) where
-    -- one option more
-    pub option_more : flow (mean f) y (take (length (joined (take s p)) + (k + 1)) (joined p))
-        ≡ flow (mean f) y (take (length (joined (take s p)) + k) (joined p)) + get_or y (first + k) 0 * mean f (moves_of p s k)
-    option_more =
-        let l : length (joined (take s p)) + k < length (joined p) = omega (arith, span_last p s in-s) in
-        rw (e, ← add_assoc)
-        (flow_more (mean f) (joined p) y (length (joined (take s p)) + k) l (omega arith)
-        ∙ ap (λ (ms : List Move). flow (mean f) y (take (length (joined (take s p)) + k) (joined p)) + get_or y (length (joined (take s p)) + k) 0 * mean f ms)
-        (joined_at p s k [] in-s in-k))
+  module _ (tally : List ℕ) (gained : ℕ) (poured : Poured p y before tally gained) where
+    pub tally_room : (t : ℕ) → t < length tally → get_or tally t 0 + added (weight_to t) < 2 ^ 64
+    tally_room t h = omega (arith, poured.inflows t h, option_room (worth (one_at t) 0) (hit_le t))
 
-    -- and there is room for it
-    pub option_room : flow (mean f) y (take (length (joined (take s p)) + k) (joined p)) + get_or y (first + k) 0 * mean f (moves_of p s k) < 2 ^ 64
-    option_room =
-        omega (
-          arith,
-          formed.option_limit,
-          span_last p s in-s,
-          option_more,
-          flow_bound (mean f) (joined p) y (length (joined (take s p)) + (k + 1)) (scaled d p f formed one) small,
-        )
+    pub gained_room : gained + added weight_to_target < 2 ^ 64
+    gained_room = omega (arith, poured.gain, option_room (worth (λ _. 0) 1) target_le)
+
+    pub poured_more : (tally' : List ℕ) (gain : ℕ) → length tally' ≡ length tally
+        → ((t : ℕ) → t < length tally → get_or tally' t 0 ≡ get_or tally t 0 + added (weight_to t))
+        → gain ≡ added weight_to_target → Poured p y (length (joined (take s p)) + (k + 1)) tally' (gained + gain)
+    poured_more tally' gain l each g =
+        rw (← add_assoc)
+        record {
+          inflows =
+              λ t h.
+              let h' : t < length tally = omega arith in
+              omega (arith, each t h', poured.inflows t h', option_more (weight_to t));
+          gain = omega (arith, poured.gain, option_more weight_to_target);
+        }
 
 -- the options of a state, and of all of them
-pub state_more : (f : List Move → ℕ) (p : Process) (y : List ℕ) (s k : ℕ) → s < length p → k ≡ length (get_or p s [])
-    → flow f y (take (length (joined (take s p)) + k) (joined p)) ≡ flow f y (take (length (joined (take (s + 1) p))) (joined p))
-state_more f p y s k h e =
-    ap (λ (n : ℕ). flow f y (take n (joined p))) (ap (λ (n : ℕ). length (joined (take s p)) + n) e ∙ sym (length-joined_more p s h))
+pub poured_state : (p : Process) (y : List ℕ) (s k : ℕ) (tally : List ℕ) (gained : ℕ) → s < length p
+    → k ≡ length (get_or p s []) → Poured p y (length (joined (take s p)) + k) tally gained
+    → Poured p y (length (joined (take (s + 1) p))) tally gained
+poured_state p y s k tally gained h e poured = rw (length-joined_more p s h, ← e) poured
 
-pub states_all : (f : List Move → ℕ) (p : Process) (y : List ℕ) (s : ℕ) → length p ≤ s
-    → flow f y (take (length (joined (take s p))) (joined p)) ≡ flow f y (joined p)
-states_all f p y s h =
-    ap (λ (q : Process). flow f y (take (length (joined q)) (joined p))) (take_all s p h)
-    ∙ ap (flow f y) (take_all (length (joined p)) (joined p) (le_refl (length (joined p))))
+pub poured_all : (p : Process) (y : List ℕ) (s : ℕ) (tally : List ℕ) (gained : ℕ) → length p ≤ s
+    → Poured p y (length (joined (take s p))) tally gained → Poured p y (length (joined p)) tally gained
+poured_all p y s tally gained h poured = rw (take_all s p h) at poured
 
--- one turn of a sum of a part
-pub part_more : (y : List ℕ) (first k : ℕ) → first + k < length y → sum (take (k + 1) (drop first y)) ≡ sum (take k (drop first y)) + get_or y (first + k) 0
-part_more y first k h =
-    sum_by_more (λ x. x) (drop first y) k 0 (simp length-drop (omega arith)) ∙ ap (λ x. sum (take k (drop first y)) + x) (get_or-drop first y k 0)
+pub poured_is : (p : Process) (y tally : List ℕ) (gained : ℕ) → length tally ≡ length p
+    → Poured p y (length (joined p)) tally gained → (tally ≡ each_state p (inflow p y)) × (gained ≡ gain p y)
+poured_is p y tally gained l poured =
+    let whole : take (length (joined p)) (joined p) ≡ joined p = take_all (length (joined p)) (joined p) (le_refl (length (joined p))) in (
+      fill_by_all (inflow p y) tally (length p) 0 l
+          (λ s h. poured.inflows s (omega arith) ∙ ap (flow (weight_to s) y) whole),
+      poured.gain ∙ ap (flow weight_to_target y) whole,
+    )
 
--- the search through the numbers below n
-module _ (ok : ℕ → Bool) (n s : ℕ) (so_far : Searched ok (range_with_len 0 n) s) where
-  pub count_on : s < n → true ≡ ok s → Searched ok (range_with_len 0 n) (s + 1)
-  count_on h e =
-      search_on ok (range_with_len 0 n) s so_far 0 (rw length-range_with_len h) (rw (get_or-range_with_len 0 n s 0 h, zero-add) (sym e))
-
-  pub count-found : s < n → false ≡ ok s → Some s ≡ first_bad ok 0 (range_with_len 0 n)
-  count-found h e =
-      search_found ok (range_with_len 0 n) s so_far 0 (rw length-range_with_len h) (rw (get_or-range_with_len 0 n s 0 h, zero-add) (sym e))
-
-  pub count-ended : n ≤ s → None ≡ first_bad ok 0 (range_with_len 0 n)
-  count-ended h = search_ended ok (range_with_len 0 n) s so_far (rw length-range_with_len h)
-
-pub same_test : (k : FlowKind) (d d' x x' t t' g g' : ℕ) → d' ≡ d → x' ≡ x → t' ≡ t → g' ≡ g → balanced k (d' * x') (t' + g') ≡ balanced k (d * x) (t + g)
-same_test k d d' x x' t t' g g' e₁ e₂ e₃ e₄ = cc
+-- what a search through numbers in a row finds
+pub found_is_bad : (ok : ℕ → Bool) (a n : ℕ) → find (λ s. not (ok s)) (range_with_len a n) ≡ first_bad ok a (range_with_len a n)
+found_is_bad ok a zero = refl
+found_is_bad ok a (suc n) =
+    elim (cases_Bool (ok a)) [
+      | inl t ↦ rw t (found_is_bad ok (a + 1) n)
+      | inr f ↦ rw f refl
+    ]
 
 -- a read of a list made by states
 pub at-state : (p : Process) (f : ℕ → ℕ) (xs : List ℕ) (s : ℕ) → xs ≡ each_state p f → s < length p → get_or xs s 0 ≡ f s

@@ -1,5 +1,6 @@
 -- What differs between a hope and a risk, the vectors with one entry for each option.
-use Rattle.std.specs.Prelude.{ℕ, ◌+◌, ◌*◌, ◌/◌, ◌%◌, ◌<◌, ◌≤◌, Bool, cond, List, nat_le, nat_lt}
+use Rattle.std.specs.Prelude.{ℕ, ◌+◌, ◌*◌, ◌/◌, ◌<◌, ◌≤◌, Bool, List, nat_le}
+use Rattle.std.specs.Int.{div_ceil}
 use Rattle.process.specs.Process.{Process}
 use Rattle.bounds.specs.Vectors.{one_at, inflow, own, HopeAt, RiskAt}
 use Rattle.kinds.specs.declared.flow_kind.FlowKind.{FlowKind}
@@ -19,14 +20,10 @@ abbrev pub BalancedAt : FlowKind → ℕ → Process → List ℕ → ℕ → Ty
 BalancedAt Hope d p y s = HopeAt 1000000 d p y s
 BalancedAt Risk d p y s = RiskAt 1000000 d p y s
 
--- a quotient, and one more where something is left
-abbrev pub rounded_up : ℕ → ℕ → ℕ
-rounded_up g d = cond (nat_lt 0 (g % d)) (g / d + 1) (g / d)
-
 -- the bound of a sum at scale d
 abbrev pub rounded : FlowKind → ℕ → ℕ → ℕ
 rounded Hope g d = g / d
-rounded Risk g d = rounded_up g d
+rounded Risk g d = div_ceil g d
 
 -- of the whole numbers, the greatest that times d is not above the sum, or the least that is not below it
 abbrev pub Rounds : FlowKind → ℕ → ℕ → ℕ → Type 0

@@ -1,6 +1,6 @@
 // What differs between a hope and a risk.
 ghost use Rattle.std.specs.Prelude.{◌≡◌, ◌≤◌};
-ghost use Rattle.kinds.specs.FlowKinds.{balanced, rounded_up, rounded, Rounds};
+ghost use Rattle.kinds.specs.FlowKinds.{balanced, rounded, Rounds};
 
 use process::Model;
 
@@ -28,19 +28,10 @@ impl FlowKind {
         ensures value { result ≡ rounded self sum M.Model.scale }
         ensures next { Rounds self sum M.Model.scale result }
     {
-        let scale = M::total_weight() as u64;
+        let scale = u64::from(M::total_weight());
         match self {
             FlowKind::Hope => sum / scale,
-            FlowKind::Risk => round_up(sum, scale),
+            FlowKind::Risk => sum.div_ceil(scale),
         }
     }
-}
-
-// a quotient, and one more where something is left
-fn round_up(sum: u64, scale: u64) -> u64
-    requires { 1 ≤ scale }
-    ensures { result ≡ rounded_up sum scale }
-{
-    let whole = sum / scale;
-    if sum % scale > 0 { whole + 1 } else { whole }
 }

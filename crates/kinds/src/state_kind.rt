@@ -12,12 +12,12 @@ pub enum StateKind {
 
 impl StateKind {
     // The largest entry.
+    // kept: one function for each figure, since a table of figures would be read by its field just so
     pub fn limit(self) -> u32
         ensures { result ≡ limit_of self }
     {
         match self {
-            StateKind::Cap => 1_000_000,
-            StateKind::Floor => 1_000_000,
+            StateKind::Cap | StateKind::Floor => 1_000_000,
             StateKind::Delay => 1_073_741_824,
         }
     }
@@ -27,8 +27,7 @@ impl StateKind {
         ensures { result ≡ reward_of self }
     {
         match self {
-            StateKind::Cap => 1_000_000,
-            StateKind::Floor => 1_000_000,
+            StateKind::Cap | StateKind::Floor => 1_000_000,
             StateKind::Delay => 0,
         }
     }
@@ -38,8 +37,7 @@ impl StateKind {
         ensures { result ≡ charge_of self scale }
     {
         match self {
-            StateKind::Cap => 0,
-            StateKind::Floor => 0,
+            StateKind::Cap | StateKind::Floor => 0,
             StateKind::Delay => scale,
         }
     }
@@ -49,9 +47,8 @@ impl StateKind {
         ensures { result ≡ fair self own given }
     {
         match self {
-            StateKind::Cap => given <= own,
+            StateKind::Cap | StateKind::Delay => given <= own,
             StateKind::Floor => own <= given,
-            StateKind::Delay => given <= own,
         }
     }
 }

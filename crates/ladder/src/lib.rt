@@ -1,6 +1,6 @@
 #![tactic(auto)]
 
-ghost use Rattle.std.specs.Prelude.{◌≡◌, ◌<◌, true, is_ok};
+ghost use Rattle.std.specs.Prelude.{◌≡◌, ◌<◌, true, [], ◌∷◌, nat_lt, is_ok, if◌then◌else◌};
 ghost use Rattle.std.specs.List.{slice_get};
 ghost use Rattle.refusal.specs.Tellings.{told_as};
 ghost use Rattle.ladder.specs.Ladder.{answer, tried, fits, moves_after, after_failure};
@@ -26,13 +26,13 @@ impl Ladder {
     pub fn new(tries: u32, forty: Chances, twenty: Chances) -> Result<Self, Refusal>
         ensures { told_as (λ l. tried l.tries l.forty l.twenty) result ≡ answer tries forty twenty }
     {
-        if tries < 1 || tries > 4096 {
+        if !(1..=4096).contains(&tries) {
             return Err(Refusal::LadderTries);
         }
-        if !fit(forty) {
+        if !forty.fit() {
             return Err(Refusal::LadderChances(0));
         }
-        if !fit(twenty) {
+        if !twenty.fit() {
             return Err(Refusal::LadderChances(1));
         }
         Ok(Ladder {
@@ -40,6 +40,24 @@ impl Ladder {
             forty,
             twenty,
         })
+    }
+
+    // how many tries have failed in a state, if there is such a state
+    fn failed(&self, state: usize) -> Option<u32>
+        ensures { result ≡ (if nat_lt state self.now.tries then Some state else None) }
+    {
+        (state < self.tries as usize).then(|| state as u32)
+    }
+
+    // the chances of an option, if there is such an option
+    fn chances(&self, option: usize) -> Option<Chances>
+        ensures { result ≡ slice_get (self.now.forty ∷ (self.now.twenty ∷ [])) option }
+    {
+        match option {
+            0 => Some(self.forty),
+            1 => Some(self.twenty),
+            _ => None,
+        }
     }
 
     // a move after some failed tries
@@ -83,12 +101,7 @@ impl Ladder {
     }
 }
 
-fn fit(chances: Chances) -> bool
-    ensures { result ≡ fits chances }
-{
-    u64::from(chances.target) + u64::from(chances.exit) + u64::from(chances.again) <= 4096
-}
-
+#[tactic(auto, using(crate::proofs::Queries::ladder_queries))]
 impl ProcessModel for Ladder {
     const SCALE: u32 = 4096;
 
@@ -109,32 +122,22 @@ impl ProcessModel for Ladder {
     }
 
     fn options(&self, state: usize) -> Option<Span> {
-        if state < self.tries as usize {
-            Some(Span {
-                first: 2 * state,
-                count: 2,
-            })
-        } else {
-            None
-        }
+        let failed = self.failed(state)?;
+        Some(Span {
+            first: 2 * failed as usize,
+            count: 2,
+        })
     }
 
     fn moves(&self, state: usize, option: usize) -> Option<usize> {
-        if state < self.tries as usize && option < 2 {
-            Some(4)
-        } else {
-            None
-        }
+        self.failed(state)?;
+        self.chances(option)?;
+        Some(4)
     }
 
     fn move_at(&self, state: usize, option: usize, index: usize) -> Option<Move> {
-        if state >= self.tries as usize {
-            return None;
-        }
-        match option {
-            0 => self.outcome(state as u32, self.forty, index),
-            1 => self.outcome(state as u32, self.twenty, index),
-            _ => None,
-        }
+        let failed = self.failed(state)?;
+        let chances = self.chances(option)?;
+        self.outcome(failed, chances, index)
     }
 }

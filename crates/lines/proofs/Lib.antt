@@ -1,5 +1,3 @@
-pub mod DigitTurns
 pub mod Leading
 pub mod Numerals
 pub mod Written
-pub mod Retold

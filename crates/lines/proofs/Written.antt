@@ -161,7 +161,7 @@ pub written-some : (s : Said) → 0 < length (written s)
 written-some s = rw (written_body s) (omega (arith, length-append (body s) (10 ∷ [])))
 
 -- a text that is not empty has a first line
-pub read_some : (at : ℕ) (t : List ℕ) → 0 < length t
+read_some : (at : ℕ) (t : List ℕ) → 0 < length t
     → read_line at t ≡ ruled at (parsed (first_line t)) (after_line t)
 read_some at [] h = absurd (omega arith)
 read_some at (b ∷ bs) h = refl

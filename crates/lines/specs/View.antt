@@ -2,7 +2,7 @@
 use Rattle.std.specs.Prelude.{ℕ, Some, None, Option}
 use Rattle.lines.specs.declared.token.Line.{Line}
 use Rattle.lines.specs.declared.token.Line.TheVariants.{Word, Number}
-use Rattle.lines.specs.declared.token.Read.{Read}
+use Rattle.lines.specs.declared.text.Read.{Read}
 use Rattle.lines.specs.Lines.{Said, says_word, says_number, Reading}
 
 abbrev pub line_at : Line → ℕ
@@ -23,4 +23,4 @@ heard at None = None
 heard at (Some s) = Some (at, s)
 
 abbrev pub read : Read → Reading
-read x = record { at = line_at x.line; said = said_by x.line; rest = x.rest.now }
+read x = record { at = line_at x.line; said = said_by x.line; rest = x.text.rest.now }

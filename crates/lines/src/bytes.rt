@@ -1,6 +1,6 @@
 // What a byte is to a line.
-ghost use Rattle.std.specs.Prelude.{◌≡◌, ◌==◌};
-ghost use Rattle.lines.specs.Bytes.{class_of, is_letter, is_digit};
+ghost use Rattle.std.specs.Prelude.{◌≡◌};
+ghost use Rattle.lines.specs.Bytes.{class_of};
 
 #[derive(Clone, Copy, PartialEq, Eq, Debug)]
 pub(crate) enum Class {
@@ -9,6 +9,14 @@ pub(crate) enum Class {
     Equals,
     Newline,
     Other,
+}
+
+impl Class {
+    pub(crate) fn of(b: u8) -> Class
+        ensures { result ≡ class_of b }
+    {
+        classify(b as char)
+    }
 }
 
 fn classify(c: char) -> Class
@@ -21,28 +29,4 @@ fn classify(c: char) -> Class
         '\n' => Class::Newline,
         _ => Class::Other,
     }
-}
-
-pub(crate) fn is_letter(b: u8) -> bool
-    ensures { result ≡ is_letter b }
-{
-    classify(b as char) == Class::Letter
-}
-
-pub(crate) fn is_digit(b: u8) -> bool
-    ensures { result ≡ is_digit b }
-{
-    classify(b as char) == Class::Digit
-}
-
-pub(crate) fn is_equals(b: u8) -> bool
-    ensures { result ≡ (b == 61) }
-{
-    classify(b as char) == Class::Equals
-}
-
-pub(crate) fn is_newline(b: u8) -> bool
-    ensures { result ≡ (b == 10) }
-{
-    classify(b as char) == Class::Newline
 }

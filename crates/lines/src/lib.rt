@@ -3,7 +3,9 @@
 // One line of text: key, `=`, value, newline.
 mod bytes;
 mod reader;
+mod text;
 mod token;
 
-pub use reader::{line_width, read_line, same_bytes};
-pub use token::{Line, Read};
+pub use reader::{line_width, read_line};
+pub use text::{Read, Text};
+pub use token::Line;

@@ -30,10 +30,3 @@ impl Line<'_> {
         }
     }
 }
-
-// A line, and the text after it.
-#[derive(Clone, Copy, Debug)]
-pub struct Read<'a> {
-    pub line: Line<'a>,
-    pub rest: &'a [u8],
-}

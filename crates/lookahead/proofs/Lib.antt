@@ -1,3 +1,4 @@
+pub mod Firsts
 pub mod Picks
 pub mod Limits
 pub mod Orders

@@ -15,10 +15,5 @@ const MOVE_LIMIT: usize = 16;
 pub(crate) fn first_crowded(table: &Table) -> Option<usize>
     ensures { result ≡ too_wide (process_read (lists_of table.now)) }
 {
-    for state in 0..table.states() {
-        if move_count(table, state) > MOVE_LIMIT {
-            return Some(state);
-        }
-    }
-    None
+    (0..table.states()).find(|state| move_count(table, *state) > MOVE_LIMIT)
 }

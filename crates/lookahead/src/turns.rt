@@ -5,10 +5,11 @@ ghost use Rattle.encoding.specs.Reading.{process_read};
 ghost use Rattle.table.specs.View.{lists_of};
 ghost use Rattle.lookahead.specs.Sides.{kept, outlook, mean_outlook};
 
-use process::{End, Place, count_of, option_count, step_of};
+use process::{End, Place, option_count, steps};
 use table::Table;
 
 // What the controller plays for: the most hits or the fewest.
+// kept: the contracts speak of the side, and two cases are plainer than `u64::max` or `u64::min` passed through both turns
 #[derive(Clone, Copy)]
 pub(crate) enum Side {
     Greatest,
@@ -37,6 +38,7 @@ pub(crate) fn choice(table: &Table, side: Side, depth: u32, state: usize) -> u64
         return 0;
     }
     let mut hits = chance(table, side, depth - 1, state, 0);
+    // kept: in a chain the closure would call back into this pair of functions, and need a second copy of their contract
     for option in 1..option_count(table, state) {
         let next = chance(table, side, depth - 1, state, option);
         hits = side.keep(hits, next);
@@ -52,14 +54,13 @@ fn chance(table: &Table, side: Side, depth: u32, state: usize, option: usize) ->
 {
     let certain = 1000u64.pow(depth);
     let mut sum = 0;
-    for index in 0..count_of(table, state, option) {
-        let step = step_of(table, state, option, index);
+    for step in steps(table, state, option) {
         let hits = match step.place {
             Place::State(next) => choice(table, side, depth, next as usize),
             Place::End(End::Target) => certain,
             Place::End(End::Exit) => 0,
         };
-        sum += step.weight as u64 * hits;
+        sum += u64::from(step.weight) * hits;
     }
     sum
 }

@@ -10,3 +10,4 @@ mod refusals;
 mod shapes;
 #[cfg(test)]
 mod tables;
+mod told;

@@ -1,3 +1,4 @@
+use crate::told::told;
 use ladder::{Chances, Ladder};
 use part::Part;
 use process::{End, Model, Place};
@@ -13,8 +14,13 @@ fn ladder() -> Result<Ladder, Fail> {
     Ok(Ladder::new(3, chances, chances)?)
 }
 
-// where move 0 (to the target), 2 (to the same state) and 3 (to the next) of a state lead: 1 where they did, 0 to the exit
-fn stays<M: Model>(model: &M, state: usize) -> [u8; 3]
+// a move that stays in the part, and one that leads to the exit
+const ON: Option<bool> = Some(true);
+
+const OFF: Option<bool> = Some(false);
+
+// whether move 0 (to the target), 2 (to the same state) and 3 (to the next) of a state stay in the part, if they are there
+fn stays<M: Model>(model: &M, state: usize) -> [Option<bool>; 3]
     requires { M.Model.valid model.now }
 {
     [
@@ -24,26 +30,11 @@ fn stays<M: Model>(model: &M, state: usize) -> [u8; 3]
     ]
 }
 
-fn lives<M: Model>(model: &M, state: usize, index: usize) -> u8
+fn lives<M: Model>(model: &M, state: usize, index: usize) -> Option<bool>
     requires { M.Model.valid model.now }
 {
-    match model.move_at(state, 1, index) {
-        Some(m) => {
-            if m.place == Place::End(End::Exit) {
-                0
-            } else {
-                1
-            }
-        }
-        None => 2,
-    }
-}
-
-fn filled(part: &mut Part<Ladder>, marks: &[u8]) -> (u8, usize) {
-    match part.fill(marks) {
-        Ok(()) => (0, 0),
-        Err(refusal) => (refusal.number(), refusal.place()),
-    }
+    let found = model.move_at(state, 1, index)?;
+    Some(found.place != Place::End(End::Exit))
 }
 
 // the constant, as code for every model reads it
@@ -61,8 +52,8 @@ fn a_part_has_the_scale_below(rt: HostRuntime) -> Result<(), Fail> {
 #[test]
 fn a_new_part_keeps_nothing(rt: HostRuntime) -> Result<(), Fail> {
     let part = Part::new(ladder()?);
-    assert_eq!(rt; stays(&part, 0), [0, 0, 0]);
-    assert_eq!(rt; stays(&part, 3), [2, 2, 2]);
+    assert_eq!(rt; stays(&part, 0), [OFF, OFF, OFF]);
+    assert_eq!(rt; stays(&part, 3), [None, None, None]);
     assert_eq!(rt; part.states(), 3);
     Ok(())
 }
@@ -70,23 +61,23 @@ fn a_new_part_keeps_nothing(rt: HostRuntime) -> Result<(), Fail> {
 #[test]
 fn a_fill_keeps_marked_states(rt: HostRuntime) -> Result<(), Fail> {
     let mut part = Part::new(ladder()?);
-    assert_eq!(rt; filled(&mut part, &[1, 1]), (0, 0));
-    assert_eq!(rt; stays(&part, 0), [1, 1, 1]);
-    assert_eq!(rt; stays(&part, 1), [1, 1, 0]);
-    assert_eq!(rt; stays(&part, 2), [0, 0, 0]);
-    assert_eq!(rt; filled(&mut part, &[0, 1, 1]), (0, 0));
-    assert_eq!(rt; stays(&part, 0), [0, 0, 0]);
-    assert_eq!(rt; stays(&part, 1), [1, 1, 1]);
+    assert_eq!(rt; told(part.fill(&[1, 1])), Ok(()));
+    assert_eq!(rt; stays(&part, 0), [ON, ON, ON]);
+    assert_eq!(rt; stays(&part, 1), [ON, ON, OFF]);
+    assert_eq!(rt; stays(&part, 2), [OFF, OFF, OFF]);
+    assert_eq!(rt; told(part.fill(&[0, 1, 1])), Ok(()));
+    assert_eq!(rt; stays(&part, 0), [OFF, OFF, OFF]);
+    assert_eq!(rt; stays(&part, 1), [ON, ON, ON]);
     Ok(())
 }
 
 #[test]
 fn a_refused_fill_keeps_the_old_set(rt: HostRuntime) -> Result<(), Fail> {
     let mut part = Part::new(ladder()?);
-    assert_eq!(rt; filled(&mut part, &[1]), (0, 0));
-    assert_eq!(rt; filled(&mut part, &[0, 1, 2, 3]), (46, 2));
-    assert_eq!(rt; filled(&mut part, &[255]), (46, 0));
-    assert_eq!(rt; stays(&part, 0), [1, 1, 0]);
+    assert_eq!(rt; told(part.fill(&[1])), Ok(()));
+    assert_eq!(rt; told(part.fill(&[0, 1, 2, 3])), Err((46, 2)));
+    assert_eq!(rt; told(part.fill(&[255])), Err((46, 0)));
+    assert_eq!(rt; stays(&part, 0), [ON, ON, OFF]);
     Ok(())
 }
 
@@ -94,14 +85,14 @@ fn a_refused_fill_keeps_the_old_set(rt: HostRuntime) -> Result<(), Fail> {
 fn the_longest_lists(rt: HostRuntime) -> Result<(), Fail> {
     let mut part = Part::new(ladder()?);
     let mut marks = [1; 4097];
-    assert_eq!(rt; filled(&mut part, &marks), (46, 4096));
+    assert_eq!(rt; told(part.fill(&marks)), Err((46, 4096)));
     marks[4095] = 2;
-    assert_eq!(rt; filled(&mut part, &marks[0..4096]), (46, 4095));
-    assert_eq!(rt; filled(&mut part, &marks), (46, 4096));
-    assert_eq!(rt; filled(&mut part, &marks[0..4095]), (0, 0));
-    assert_eq!(rt; stays(&part, 1), [1, 1, 1]);
-    assert_eq!(rt; filled(&mut part, &[]), (0, 0));
-    assert_eq!(rt; stays(&part, 1), [0, 0, 0]);
+    assert_eq!(rt; told(part.fill(&marks[0..4096])), Err((46, 4095)));
+    assert_eq!(rt; told(part.fill(&marks)), Err((46, 4096)));
+    assert_eq!(rt; told(part.fill(&marks[0..4095])), Ok(()));
+    assert_eq!(rt; stays(&part, 1), [ON, ON, ON]);
+    assert_eq!(rt; told(part.fill(&[])), Ok(()));
+    assert_eq!(rt; stays(&part, 1), [OFF, OFF, OFF]);
     Ok(())
 }
 
@@ -110,13 +101,13 @@ fn a_part_of_a_part(rt: HostRuntime) -> Result<(), Fail> {
     let mut below = Part::new(ladder()?);
     below.fill(&[1, 1, 0])?;
     let mut above = Part::new(below);
-    assert_eq!(rt; stays(&above, 0), [0, 0, 0]);
+    assert_eq!(rt; stays(&above, 0), [OFF, OFF, OFF]);
     above.fill(&[0, 1, 1])?;
-    assert_eq!(rt; stays(&above, 0), [0, 0, 0]);
-    assert_eq!(rt; stays(&above, 1), [1, 1, 0]);
-    assert_eq!(rt; stays(&above, 2), [0, 0, 0]);
+    assert_eq!(rt; stays(&above, 0), [OFF, OFF, OFF]);
+    assert_eq!(rt; stays(&above, 1), [ON, ON, OFF]);
+    assert_eq!(rt; stays(&above, 2), [OFF, OFF, OFF]);
     let back = above.into_below();
-    assert_eq!(rt; stays(&back, 0), [1, 1, 1]);
-    assert_eq!(rt; stays(&back.into_below(), 2), [1, 1, 0]);
+    assert_eq!(rt; stays(&back, 0), [ON, ON, ON]);
+    assert_eq!(rt; stays(&back.into_below(), 2), [ON, ON, OFF]);
     Ok(())
 }

@@ -3,9 +3,19 @@ use std::alloc::{AllocError, Global};
 
 #[derive(Drop)]
 pub(crate) struct Lists {
-    pub options: Vec<u32>,
-    pub starts: Vec<u32>,
-    pub moves: Vec<u32>,
+    options: Vec<u32>,
+    starts: Vec<u32>,
+    moves: Vec<u32>,
+}
+
+impl Lists {
+    pub(crate) fn lend(&self) -> encoding::Lists<'_> {
+        encoding::Lists {
+            options: self.options.as_slice(),
+            starts: self.starts.as_slice(),
+            moves: self.moves.as_slice(),
+        }
+    }
 }
 
 // Each of so many states has so many options, each of which has so many moves; of those the first leads to the given
@@ -37,11 +47,8 @@ pub(crate) fn equal(
 // 0, by, twice by, and so on: one more than count
 fn steps(heap: Global, count: u32, by: u32) -> Result<Vec<u32>, AllocError> {
     let mut list = Vec::new(heap);
-    let mut next: u32 = 0;
-    list.push(next)?;
-    for _ in 0..count {
-        next = next.saturating_add(by);
-        list.push(next)?;
+    for step in 0..=count {
+        list.push(step.saturating_mul(by))?;
     }
     Ok(list)
 }

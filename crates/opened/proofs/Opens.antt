@@ -1,7 +1,6 @@
 -- The lists that loading leaves begin with the encoding of the depot, so that the table takes them.
-use Rattle.std.proofs.Common.{◌≡◌, ℕ, ◌+◌, ◌-◌, ◌*◌, true, List, map, length, take, is_ok, Ok, Err, Result, refl, ap, ◌∙◌, arith}
+use Rattle.std.proofs.Common.{◌≡◌, ℕ, ◌+◌, ◌*◌, true, List, map, length, take, is_ok, Ok, Err, Result, refl, ap, ◌∙◌, arith}
 use Rattle.std.proofs.lemmas.List.{take_at, length-map}
-use Rattle.std.proofs.lemmas.Bool.{true≢false, false≢true}
 use Rattle.refusal.specs.declared.reason.Refusal.{Refusal}
 use Rattle.refusal.specs.Tellings.{Telling, told}
 use Rattle.process.specs.declared.size.Size.{Size}
@@ -18,11 +17,10 @@ use Rattle.opened.specs.Opening.{OpenedAsSpelled}
 -- the parts of the lists that loading says are filled
 abbrev pub filled_part : Size → Lists → Lists
 filled_part n l =
-    lists (take (n.states + 1 - 0) l.option_starts) (take (n.options + 1 - 0) l.move_starts)
-    (take (2 * n.moves - 0) l.moves)
+    lists (take (n.states + 1) l.option_starts) (take (n.options + 1) l.move_starts) (take (2 * n.moves) l.moves)
 
-front : (xs old : List ℕ) (n : ℕ) → length xs ≡ n → take (n - 0) (over xs old) ≡ xs
-front xs old n e = take_at xs _ (n - 0) (omega arith)
+front : (xs old : List ℕ) (n : ℕ) → length xs ≡ n → take n (over xs old) ≡ xs
+front xs old n e = take_at xs _ n e
 
 pub part_is : (t : Tree) (old : Lists) → filled_part (size_of t) (spread (encoding (process_of t)) old) ≡ encoding (process_of t)
 part_is t old =
@@ -35,16 +33,13 @@ part_is t old =
     (front (starts_from 0 (joined p)) old.move_starts (length (joined t) + 1) b i)
     (front (moves_written (joined (joined p))) old.moves (2 * length (joined (joined t))) c i))
 
-same_size : (n m : Size) → ◌≡◌ {A = Result Size Telling} (Ok n) (Ok m) → n ≡ m
-same_size n m e = cc
-
 told_fine : (r : Result (Unit {0}) Refusal) → is_ok r ≡ true → told r ≡ Ok tt
 told_fine (Ok tt) e = refl
-told_fine (Err f) e = absurd (false≢true e)
+told_fine (Err f) e = cc
 
 not_refused : {A : Type 0} (r : Result (Unit {0}) Refusal) (e : Telling) → is_ok r ≡ true → told r ≡ Err e → A
-not_refused (Ok tt) e t f = absurd (true≢false (ap is_ok f))
-not_refused (Err g) e t f = absurd (false≢true t)
+not_refused (Ok tt) e t f = cc
+not_refused (Err g) e t f = cc
 
 module _ (text : List ℕ) (old new : Lists) (n : Size) (before after : Process) (r : Result (Unit {0}) Refusal)
     (loaded : LoadedAsSpelled 1000 text old (Ok n) new)
@@ -53,7 +48,8 @@ module _ (text : List ℕ) (old new : Lists) (n : Size) (before after : Process)
   opens =
       let t = loaded.loaded n refl in
       let s = loaded.spelled t.0 t.1 t.2 in
-      let size : n ≡ size_of t.0 = same_size n (size_of t.0) s.0 in
+      let same = s.0 in
+      let size : n ≡ size_of t.0 = cc in
       let part : filled_part n new ≡ encoding (process_of t.0) =
       (λ i. filled_part (size i) (s.1 i)) ∙ part_is t.0 old in
       let q = taken.spelled (process_of t.0) (record { formed = t.1.formed; written = part }) in

@@ -1,6 +1,6 @@
 #![tactic(auto)]
 
-ghost use Rattle.std.specs.Prelude.{◌≡◌, ◌<◌, ◌≤◌, length, is_ok, if◌then◌else◌};
+ghost use Rattle.std.specs.Prelude.{◌≡◌, ◌<◌, ◌≤◌, length, nat_lt, position, is_ok, if◌then◌else◌};
 ghost use Rattle.refusal.specs.Tellings.{told};
 ghost use Rattle.process.specs.Process.{Within};
 ghost use Rattle.process.specs.Parts.{sent as sent_to, kept_move, part_of};
@@ -9,12 +9,14 @@ ghost use Rattle.part.specs.Marks.{set_of, none, marked, answer, leaves};
 
 use process::{End, Model as ProcessModel, Move, Place, Span};
 use refusal::Refusal;
+use std::array;
 
 // A model that keeps some of the states of the one below: a move leads to the exit if its own state or the state that
 // it leads to is not kept. The set is the part's own, so nothing stays borrowed after a fill.
 #[derive(Drop)]
 pub struct Part<M: ProcessModel> {
     below: M,
+    // kept: an array with room for the most states, since there is no heap
     kept: [bool; 4096],
     ghost long: { length kept ≡ 4096 },
 }
@@ -84,12 +86,17 @@ fn check_marks(marks: &[u8]) -> Result<(), Refusal>
     if marks.len() > 4096 {
         return Err(Refusal::PartMarks(4096));
     }
-    for (i, mark) in marks.iter().enumerate() {
-        if *mark > 1 {
-            return Err(Refusal::PartMarks(i));
-        }
+    match bad_mark(marks) {
+        Some(i) => Err(Refusal::PartMarks(i)),
+        None => Ok(()),
     }
-    Ok(())
+}
+
+// the first mark that is neither 0 nor 1
+fn bad_mark(marks: &[u8]) -> Option<usize>
+    ensures { result ≡ position (λ b. nat_lt 1 b) marks.now }
+{
+    marks.iter().position(|mark| *mark > 1)
 }
 
 // the marks as flags, false past the list
@@ -97,13 +104,16 @@ fn flags(marks: &[u8]) -> [bool; 4096]
     requires { length marks.now ≤ 4096 }
     ensures { set_of result ≡ marked marks.now }
 {
-    let mut set = [false; 4096];
-    for (i, mark) in marks.iter().enumerate() {
-        set[i] = *mark == 1;
-    }
-    set
+    array::from_fn(|state| is_marked(marks, state))
 }
 
+fn is_marked(marks: &[u8], state: usize) -> bool
+    ensures { result ≡ marked marks.now state }
+{
+    marks.get(state).is_some_and(|mark| *mark == 1)
+}
+
+#[tactic(auto, using(crate::proofs::Queries::part_queries))]
 impl<M: ProcessModel> ProcessModel for Part<M> {
     const SCALE: u32 = M::SCALE;
 
@@ -134,9 +144,7 @@ impl<M: ProcessModel> ProcessModel for Part<M> {
     }
 
     fn move_at(&self, state: usize, option: usize, index: usize) -> Option<Move> {
-        match self.below.move_at(state, option, index) {
-            None => None,
-            Some(m) => Some(self.sent(state, m)),
-        }
+        let found = self.below.move_at(state, option, index)?;
+        Some(self.sent(state, found))
     }
 }

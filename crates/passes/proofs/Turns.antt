@@ -1,5 +1,5 @@
 -- One line of a pass.
-use Rattle.std.proofs.Common.{◌≡◌, ℕ, ◌+◌, ◌<◌, ◌≤◌, Bool, true, false, cond, List, [], ◌∷◌, length, Some, None, Ok, Err, Option, Result, sym, refl, ap, ◌∙◌, inl, inr, arith}
+use Rattle.std.proofs.Common.{◌≡◌, ℕ, ◌+◌, ◌<◌, ◌≤◌, Bool, true, false, List, [], ◌∷◌, length, Some, None, Ok, Err, Option, Result, sym, refl, ap, ◌∙◌, inl, inr, arith}
 use Rattle.std.proofs.lemmas.Bool.{cases_lt, both_ways, cond-true, cond-false}
 use Rattle.refusal.specs.Tellings.{Telling}
 use Rattle.encoding.specs.Lists.{Lists}
@@ -102,25 +102,24 @@ module _ {S : Type 0} (next : S → ℕ → Said → Result S Telling) (ended : 
 
 -- what a pass keeps: the line's number is small, and what is left gives what the whole text gives
 pub record Going {S : Type 0} (next : S → ℕ → Said → Result S Telling) (ended : S → Bool) (puts : S → Lists → Lists)
-    (first : ℕ) (text : List ℕ) (start : S) (writes : Bool) (old : Lists)
+    (first : ℕ) (text : List ℕ) (start : S) (old : Lists)
     (s : S) (at : ℕ) (rest : List ℕ) (new : Lists) : Type 0 where
   pub count : at + length rest ≤ length text + first
   pub from : first ≤ at
   pub unmoved : at ≡ first → ended s ≡ ended start
   pub same : pass next ended s at (lines rest) ≡ pass next ended start first (lines text)
-  pub lists : cond writes (filled next ended puts s at (lines rest) new) new
-      ≡ cond writes (filled next ended puts start first (lines text) old) old
+  pub lists : filled next ended puts s at (lines rest) new ≡ filled next ended puts start first (lines text) old
 
 module _ {S : Type 0} (next : S → ℕ → Said → Result S Telling) (ended : S → Bool) (puts : S → Lists → Lists)
-    (first : ℕ) (text : List ℕ) (start : S) (writes : Bool) (old : Lists) where
-  pub sets_out : Going next ended puts first text start writes old start first text old
+    (first : ℕ) (text : List ℕ) (start : S) (old : Lists) where
+  pub sets_out : Going next ended puts first text start old start first text old
   sets_out = record { count = omega arith; from = omega arith; unmoved = λ _. refl; same = refl; lists = refl }
 
-  module _ (s : S) (at : ℕ) (rest : List ℕ) (new : Lists) (g : Going next ended puts first text start writes old s at rest new) where
+  module _ (s : S) (at : ℕ) (rest : List ℕ) (new : Lists) (g : Going next ended puts first text start old s at rest new) where
     pub goes_on : (s' : S) (at' : ℕ) (rest' : List ℕ) (new' : Lists) → ended s ≡ false
         → Ok (halt s' at' (lines rest')) ≡ advanced next s at (lines rest)
-        → length rest' + 1 ≤ length rest → at' ≡ at + 1 → new' ≡ cond writes (puts s' new) new
-        → Going next ended puts first text start writes old s' at' rest' new'
+        → length rest' < length rest → at' ≡ at + 1 → new' ≡ puts s' new
+        → Going next ended puts first text start old s' at' rest' new'
     goes_on s' at' rest' new' go e l n p =
         record {
           count = omega (arith, g.count);
@@ -128,23 +127,17 @@ module _ {S : Type 0} (next : S → ℕ → Said → Result S Telling) (ended : 
           unmoved = λ e. absurd (omega (arith, g.from));
           same = sym (pass_on next ended s at go (lines rest) (halt s' at' (lines rest')) e) ∙ g.same;
           lists =
-              ap (λ x. cond writes (filled next ended puts s' at' (lines rest') x) x) p
-              ∙ (step writes ∙ g.lists);
+              ap (filled next ended puts s' at' (lines rest')) p
+              ∙ sym (fill_on next ended s at go puts new (lines rest) (halt s' at' (lines rest')) e) ∙ g.lists;
         }
-      where
-        step : (w : Bool) → cond w (filled next ended puts s' at' (lines rest') (cond w (puts s' new) new)) (cond w (puts s' new) new)
-            ≡ cond w (filled next ended puts s at (lines rest) new) new
-        step true = sym (fill_on next ended s at go puts new (lines rest) (halt s' at' (lines rest')) e)
-        step false = refl
 
     pub stops : (f : Telling) → ended s ≡ false → Err f ≡ advanced next s at (lines rest)
         → (Err f ≡ pass next ended start first (lines text))
-        × (new ≡ cond writes (filled next ended puts start first (lines text) old) old)
-    stops f go e = (sym (pass_stop next ended s at go (lines rest) f e) ∙ g.same, stay writes ∙ g.lists)
-      where
-        stay : (w : Bool) → new ≡ cond w (filled next ended puts s at (lines rest) new) new
-        stay true = sym (fill_stop next ended s at go puts new (lines rest) f e)
-        stay false = refl
+        × (new ≡ filled next ended puts start first (lines text) old)
+    stops f go e = (
+      sym (pass_stop next ended s at go (lines rest) f e) ∙ g.same,
+      sym (fill_stop next ended s at go puts new (lines rest) f e) ∙ g.lists,
+    )
 
     -- a pass that had to begin has gone on by a line at least
     pub has_moved : ended s ≡ true → ended start ≡ false → first < at
@@ -156,9 +149,8 @@ module _ {S : Type 0} (next : S → ℕ → Said → Result S Telling) (ended : 
 
     pub is_over : ended s ≡ true
         → (Ok (halt s at (lines rest)) ≡ pass next ended start first (lines text))
-        × (new ≡ cond writes (filled next ended puts start first (lines text) old) old)
-    is_over done = (sym (pass-over next ended s at done (lines rest)) ∙ g.same, stay writes ∙ g.lists)
-      where
-        stay : (w : Bool) → new ≡ cond w (filled next ended puts s at (lines rest) new) new
-        stay true = sym (fill_over next ended s at done puts new (lines rest))
-        stay false = refl
+        × (new ≡ filled next ended puts start first (lines text) old)
+    is_over done = (
+      sym (pass-over next ended s at done (lines rest)) ∙ g.same,
+      sym (fill_over next ended s at done puts new (lines rest)) ∙ g.lists,
+    )

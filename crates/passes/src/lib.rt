@@ -5,7 +5,7 @@ ghost use Rattle.refusal.specs.Tellings.{Telling, told};
 ghost use Rattle.encoding.specs.Lists.{Lists};
 ghost use Rattle.lines.specs.Lines.{Said};
 ghost use Rattle.lines.specs.View.{line_at, said_by};
-ghost use Rattle.passes.specs.View.{view};
+ghost use Rattle.passes.specs.View.{view, left};
 
 mod lent;
 mod passing;
@@ -32,9 +32,6 @@ pub trait Automaton: Sized {
     fn has_ended(&self) -> bool
         ensures { result ≡ ended self.now };
 
-    fn put(&self, lists: &mut Lent<'_>)
-        ensures lists { view lists.new ≡ puts self.now (view lists.old) }
-        ensures options { lists.new.options.ghost_name ≡ lists.old.options.ghost_name }
-        ensures starts { lists.new.starts.ghost_name ≡ lists.old.starts.ghost_name }
-        ensures moves { lists.new.moves.ghost_name ≡ lists.old.moves.ghost_name };
+    fn put(&self, lists: Lent<'_>)
+        ensures { left lists.exit ≡ puts self.now (view lists.entry) };
 }

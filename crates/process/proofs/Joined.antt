@@ -1,6 +1,9 @@
 -- Lists one after another.
-use Rattle.std.proofs.Common.{◌≡◌, ℕ, zero, suc, ◌+◌, ◌<◌, ◌≤◌, List, [], ◌∷◌, ◌++◌, length, get_or, take, sym, refl, ap, ◌∙◌, append_assoc, arith, length-append}
-use Rattle.std.proofs.lemmas.List.{take_more, append-nil}
+use Rattle.std.proofs.Common.{◌≡◌, ℕ, zero, suc, ◌+◌, ◌<◌, ◌≤◌, List, [], ◌∷◌, ◌++◌, length, map, get_or, take, sum, sum_by, sym, refl, ap, ◌∙◌, append_assoc, arith, length-append}
+use Rattle.std.specs.List.{range_with_len}
+use Rattle.std.proofs.lemmas.List.{take_more, append-nil, length-map, get_or-map}
+use Rattle.std.proofs.lemmas.List.FromFn.{fill_by_all}
+use Rattle.std.proofs.lemmas.List.Sums.{sum_by-cons, sum-map}
 use Rattle.process.specs.Process.{joined}
 
 pub joined-append : {A : Type 0} (xs ys : List (List A)) → joined (xs ++ ys) ≡ joined xs ++ joined ys
@@ -21,29 +24,22 @@ module _ {A : Type 0} (xss : List (List A)) (i : ℕ) (h : i < length xss) where
   pub length-joined_more : length (joined (take (i + 1) xss)) ≡ length (joined (take i xss)) + length (get_or xss i [])
   length-joined_more = ap length joined_more ∙ length-append (joined (take i xss)) (get_or xss i [])
 
-pub length-joined_twice_more : {A : Type 0} (p : List (List (List A))) (i : ℕ) → i < length p
-    → length (joined (joined (take (i + 1) p))) ≡ length (joined (joined (take i p))) + length (joined (get_or p i []))
-length-joined_twice_more p i h =
-    ap (λ l. length (joined l)) (joined_more p i h) ∙ length-joined-append (joined (take i p)) (get_or p i [])
+-- the same by a sum: of a list by its places, of lists, and of lists of lists
+pub sum_places : {A : Type 0} (f : A → ℕ) (xs : List A) (d : A) (n : ℕ) → n ≡ length xs
+    → sum (map (λ i. f (get_or xs i d)) (range_with_len 0 n)) ≡ sum_by f xs
+sum_places f xs d n e =
+    let l : length (map f xs) ≡ n = length-map xs f ∙ sym e in
+    let all = fill_by_all (λ i. f (get_or xs i d)) (map f xs) n 0 l (λ k h. get_or-map f xs k d 0 (omega arith)) in
+    ap sum (sym all) ∙ sum-map f xs
 
--- some of several lists are together no longer than all
-pub length-joined-take : {A : Type 0} (xss : List (List A)) (i : ℕ) → length (joined (take i xss)) ≤ length (joined xss)
-length-joined-take xss zero = omega arith
-length-joined-take [] (suc i) = omega arith
-length-joined-take (xs ∷ xss) (suc i) =
-    omega (arith, length-append xs (joined (take i xss)), length-append xs (joined xss), length-joined-take xss i)
+pub sum_lengths : {A : Type 0} (xss : List (List A)) → sum_by length xss ≡ length (joined xss)
+sum_lengths [] = refl
+sum_lengths (xs ∷ xss) = omega (arith, sum_by-cons length xs xss, length-append xs (joined xss), sum_lengths xss)
 
-pub length-joined_twice_take : {A : Type 0} (p : List (List (List A))) (i : ℕ)
-    → length (joined (joined (take i p))) ≤ length (joined (joined p))
-length-joined_twice_take p zero = omega arith
-length-joined_twice_take [] (suc i) = omega arith
-length-joined_twice_take (os ∷ p) (suc i) =
-    omega (
-      arith,
-      length-joined-append os (joined (take i p)),
-      length-joined-append os (joined p),
-      length-joined_twice_take p i,
-    )
+pub sum_lengths_twice : {A : Type 0} (p : List (List (List A))) → sum_by (λ os. length (joined os)) p ≡ length (joined (joined p))
+sum_lengths_twice [] = refl
+sum_lengths_twice (os ∷ p) =
+    omega (arith, sum_by-cons (λ os. length (joined os)) os p, length-joined-append os (joined p), sum_lengths_twice p)
 
 -- the lists of one place are together no longer than all
 pub length-joined-at : {A : Type 0} (p : List (List (List A))) (i : ℕ)

@@ -95,21 +95,19 @@ module _ (d : ℕ) (p : Process) (formed : Formed d p) where
       (All-get_or (StateFormed d (length p)) p s [] h formed.each).each
 
   -- an option is missing, and so has no moves, or its weights make the scale
-  pub weights-limit : (s o i : ℕ) → weights (take i (moves_of p s o)) ≤ 65536
-  weights-limit s o i =
+  pub weights_limit : (s o : ℕ) → weights (moves_of p s o) ≤ 65536
+  weights_limit s o =
       elim (cases_lt s (length p)) [
         | inl h ↦
             elim (cases_lt o (length (get_or p s []))) [
-              | inl l ↦ omega (arith, (option_formed s o h l).sum, formed.scale_limit, weights-take (moves_of p s o) i)
-              | inr l ↦ omega (arith, weights-take (moves_of p s o) i, ap weights (get_or_past (get_or p s []) o [] l))
+              | inl l ↦ omega (arith, (option_formed s o h l).sum, formed.scale_limit)
+              | inr l ↦ omega (arith, ap weights (get_or_past (get_or p s []) o [] l))
             ]
-        | inr h ↦
-            omega (
-              arith,
-              weights-take (moves_of p s o) i,
-              ap (λ (os : List (List Move)). weights (get_or os o [])) (get_or_past p s [] h),
-            )
+        | inr h ↦ omega (arith, ap (λ (os : List (List Move)). weights (get_or os o [])) (get_or_past p s [] h))
       ]
+
+  pub weights-limit : (s o i : ℕ) → weights (take i (moves_of p s o)) ≤ 65536
+  weights-limit s o i = omega (arith, weights-take (moves_of p s o) i, weights_limit s o)
 
   pub places-within : (s o : ℕ) → Every (λ m. Within (length p) m.place) (moves_of p s o)
   places-within s o =

@@ -3,3 +3,4 @@ pub mod Queries
 pub mod Parts
 pub mod Means
 pub mod Walks
+pub mod Steps

@@ -20,7 +20,7 @@ pub struct Move {
 }
 
 // The options of one state, by their numbers in the whole model: the first, and how many.
-#[derive(Clone, Copy, PartialEq, Eq, Debug)]
+#[derive(Clone, Copy, PartialEq, Eq, Debug, Default)]
 pub struct Span {
     pub first: usize,
     pub count: usize,

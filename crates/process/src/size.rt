@@ -1,9 +1,8 @@
 // How large a model is.
 ghost use Rattle.std.specs.Prelude.{◌≡◌, [], length, slice_index_or};
 ghost use Rattle.process.specs.Process.{joined};
-ghost use Rattle.process.specs.Queries.{moves_of};
 
-use crate::Model;
+use crate::{Model, count_of, option_total, span_of};
 
 #[derive(Clone, Copy, PartialEq, Eq, Debug)]
 pub struct Size {
@@ -19,12 +18,8 @@ pub fn size_of<M: Model>(model: &M) -> Size
     ensures moves { result.moves ≡ length (joined (joined (M.Model.meaning model.now))) }
 {
     let states = model.states();
-    let mut options = 0;
-    let mut moves = 0;
-    for state in 0..states {
-        options += option_count(model, state);
-        moves += move_count(model, state);
-    }
+    let options = option_total(model);
+    let moves = (0..states).map(|state| move_count(model, state)).sum();
     Size {
         states,
         options,
@@ -37,10 +32,7 @@ pub fn option_count<M: Model>(model: &M, state: usize) -> usize
     requires { M.Model.valid model.now }
     ensures { result ≡ length (slice_index_or (M.Model.meaning model.now) state []) }
 {
-    match model.options(state) {
-        Some(span) => span.count,
-        None => 0,
-    }
+    span_of(model, state).count
 }
 
 // How many moves the options of a state have together.
@@ -48,20 +40,7 @@ pub fn move_count<M: Model>(model: &M, state: usize) -> usize
     requires { M.Model.valid model.now }
     ensures { result ≡ length (joined (slice_index_or (M.Model.meaning model.now) state [])) }
 {
-    let mut count = 0;
-    for option in 0..option_count(model, state) {
-        count += moves_in(model, state, option);
-    }
-    count
-}
-
-// how many moves one option has; none where it is missing
-fn moves_in<M: Model>(model: &M, state: usize, option: usize) -> usize
-    requires { M.Model.valid model.now }
-    ensures { result ≡ length (moves_of (M.Model.meaning model.now) state option) }
-{
-    match model.moves(state, option) {
-        Some(count) => count,
-        None => 0,
-    }
+    (0..option_count(model, state))
+        .map(|option| count_of(model, state, option))
+        .sum()
 }

@@ -1,11 +1,12 @@
 // The queries of a model made total, for loops over its states, options and moves: what is missing counts for nothing.
 ghost use Rattle.std.specs.Prelude.{◌≡◌, ◌≤◌, length};
 ghost use Rattle.std.specs.Option.{unwrap_or};
-ghost use Rattle.process.specs.Process.{joined};
+ghost use Rattle.process.specs.Process.{joined, weights};
 ghost use Rattle.process.specs.Queries.{options_at, moves_of, move_at};
 ghost use Rattle.process.specs.Walks.{no_options, no_move, Spanned, Step};
+ghost use Rattle.process.specs.Steps.{moves_left, LeadWithin};
 
-use crate::{End, Model, Move, Place, Span};
+use crate::{End, Model, Move, Place, Span, Steps};
 
 // The options of a state.
 pub fn span_of<M: Model>(model: &M, state: usize) -> Span
@@ -13,10 +14,7 @@ pub fn span_of<M: Model>(model: &M, state: usize) -> Span
     ensures answer { result ≡ unwrap_or (options_at (M.Model.meaning model.now) state) no_options }
     ensures spanned { Spanned (M.Model.meaning model.now) state result }
 {
-    match model.options(state) {
-        Some(span) => span,
-        None => Span { first: 0, count: 0 },
-    }
+    model.options(state).unwrap_or_default()
 }
 
 // How many moves an option of a state has.
@@ -24,10 +22,7 @@ pub fn count_of<M: Model>(model: &M, state: usize, option: usize) -> usize
     requires { M.Model.valid model.now }
     ensures { result ≡ length (moves_of (M.Model.meaning model.now) state option) }
 {
-    match model.moves(state, option) {
-        Some(count) => count,
-        None => 0,
-    }
+    model.moves(state, option).unwrap_or(0)
 }
 
 // One move of an option of a state.
@@ -36,12 +31,25 @@ pub fn step_of<M: Model>(model: &M, state: usize, option: usize, index: usize) -
     ensures answer { result ≡ unwrap_or (move_at (M.Model.meaning model.now) state option index) no_move }
     ensures step { Step (length (M.Model.meaning model.now)) (moves_of (M.Model.meaning model.now) state option) index result }
 {
-    match model.move_at(state, option, index) {
-        Some(step) => step,
-        None => Move {
-            place: Place::End(End::Exit),
-            weight: 0,
-        },
+    model.move_at(state, option, index).unwrap_or(Move {
+        place: Place::End(End::Exit),
+        weight: 0,
+    })
+}
+
+// The moves of an option of a state, from the first to the last.
+pub fn steps<M: Model>(model: &M, state: usize, option: usize) -> Steps<'_, M>
+    requires { M.Model.valid model.now }
+    ensures model { result.model.now ≡ model.now }
+    ensures moves { moves_left M.Model.meaning result ≡ moves_of (M.Model.meaning model.now) state option }
+    ensures within { LeadWithin (length (M.Model.meaning model.now)) (moves_left M.Model.meaning result) }
+    ensures limit { weights (moves_left M.Model.meaning result) ≤ 65536 }
+{
+    Steps {
+        model,
+        state,
+        option,
+        index: 0,
     }
 }
 

@@ -1,8 +1,10 @@
 -- Searches for the first that fails, what it says that none was found, and tests one after another.
-use Rattle.std.proofs.Common.{◌≡◌, ℕ, zero, suc, ◌+◌, ◌<◌, ◌≤◌, Bool, true, false, leb, List, [], ◌∷◌, length, get_or, drop, is_some, is_ok, Some, None, Ok, Err, Decides, Option, Result, sym, refl, ap, ◌∙◌, inl, inr, suc-le-suc, arith}
-use Rattle.std.specs.List.{AllByRecursion as Every}
+use Rattle.std.proofs.Common.{◌≡◌, ℕ, zero, suc, ◌+◌, ◌<◌, ◌≤◌, Bool, true, false, leb, List, [], ◌∷◌, length, get_or, drop, position, is_some, is_ok, Some, None, Ok, Err, Decides, Option, Result, sym, refl, ap, ◌∙◌, inl, inr, suc-le-suc, arith}
+use Rattle.std.specs.List.{AllByRecursion as Every, position_from}
+use Rattle.std.proofs.Math.Bool.{not}
 use Rattle.std.proofs.ByRecursion.{All-weaker}
 use Rattle.std.proofs.lemmas.List.{at_drop_more, at_drop_all}
+use Rattle.std.proofs.lemmas.Iterator.Adapters.{position_from-zero}
 use Rattle.std.proofs.lemmas.Bool.{cases_Bool, leb-true, le-leb, and_parts, and_from, true≢false, false≢true, both_ways, cond-true, cond-false}
 use Rattle.refusal.specs.declared.reason.Refusal.{Refusal}
 use Rattle.refusal.specs.Tellings.{Telling, told}
@@ -14,6 +16,16 @@ between-says low high n e =
 
 pub says-between : (low high n : ℕ) → low ≤ n → n ≤ high → between low high n ≡ true
 says-between low high n a b = and_from (leb low n) (leb n high) (le-leb low n a) (le-leb n high b)
+
+-- the library's search for the first that passes a test finds the first that fails its opposite
+module _ {A : Type 0} (bad ok : A → Bool) (apart : (x : A) → bad x ≡ not (ok x)) where
+  bad_from : (n : ℕ) (xs : List A) → position_from bad n xs ≡ first_bad ok n xs
+  bad_from n [] = refl
+  bad_from n (x ∷ xs) =
+      elim (cases_Bool (ok x)) [ inl t ↦ rw (apart x, t) (bad_from (n + 1) xs) | inr f ↦ rw (apart x, f) ]
+
+  pub position_bad : (xs : List A) → position bad xs ≡ first_bad ok 0 xs
+  position_bad xs = position_from-zero bad xs ∙ bad_from 0 xs
 
 -- a search finds nothing exactly when all pass
 module _ {A : Type 0} (ok : A → Bool) where

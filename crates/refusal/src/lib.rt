@@ -46,24 +46,21 @@ impl Refusal {
         ensures { result ≡ layer_of self }
     {
         match self {
-            Refusal::TextLine(_) => Layer::Text,
-            Refusal::TextOrder(_) => Layer::Text,
-            Refusal::TextValue(_) => Layer::Text,
-            Refusal::TextRoom(_) => Layer::Text,
-            Refusal::TextSum(_) => Layer::Text,
-            Refusal::TableLength(_) => Layer::Table,
-            Refusal::TableStarts(_) => Layer::Table,
-            Refusal::TableMove(_) => Layer::Table,
-            Refusal::TableSum(_) => Layer::Table,
-            Refusal::LadderTries => Layer::Ladder,
-            Refusal::LadderChances(_) => Layer::Ladder,
-            Refusal::VectorLength(_) => Layer::Vector,
-            Refusal::VectorEntry(_) => Layer::Vector,
-            Refusal::VectorInequality(_) => Layer::Vector,
+            Refusal::TextLine(_)
+            | Refusal::TextOrder(_)
+            | Refusal::TextValue(_)
+            | Refusal::TextRoom(_)
+            | Refusal::TextSum(_) => Layer::Text,
+            Refusal::TableLength(_)
+            | Refusal::TableStarts(_)
+            | Refusal::TableMove(_)
+            | Refusal::TableSum(_) => Layer::Table,
+            Refusal::LadderTries | Refusal::LadderChances(_) => Layer::Ladder,
+            Refusal::VectorLength(_) | Refusal::VectorEntry(_) | Refusal::VectorInequality(_) =>
+                Layer::Vector,
             Refusal::LookAheadReach(_) => Layer::LookAhead,
-            Refusal::RegisterChance => Layer::Register,
+            Refusal::RegisterChance | Refusal::RegisterFull => Layer::Register,
             Refusal::PartMarks(_) => Layer::Part,
-            Refusal::RegisterFull => Layer::Register,
         }
     }
 
@@ -72,29 +69,28 @@ impl Refusal {
         ensures { result ≡ place_of self }
     {
         match self {
-            Refusal::TextLine(line) => line,
-            Refusal::TextOrder(line) => line,
-            Refusal::TextValue(line) => line,
-            Refusal::TextRoom(line) => line,
-            Refusal::TextSum(line) => line,
-            Refusal::TableLength(list) => list,
-            Refusal::TableStarts(list) => list,
-            Refusal::TableMove(index) => index,
-            Refusal::TableSum(option) => option,
-            Refusal::LadderTries => 0,
-            Refusal::LadderChances(option) => option,
-            Refusal::VectorLength(list) => list,
-            Refusal::VectorEntry(index) => index,
-            Refusal::VectorInequality(place) => place,
-            Refusal::LookAheadReach(place) => place,
-            Refusal::RegisterChance => 0,
-            Refusal::PartMarks(index) => index,
-            Refusal::RegisterFull => 0,
+            Refusal::TextLine(place)
+            | Refusal::TextOrder(place)
+            | Refusal::TextValue(place)
+            | Refusal::TextRoom(place)
+            | Refusal::TextSum(place)
+            | Refusal::TableLength(place)
+            | Refusal::TableStarts(place)
+            | Refusal::TableMove(place)
+            | Refusal::TableSum(place)
+            | Refusal::LadderChances(place)
+            | Refusal::VectorLength(place)
+            | Refusal::VectorEntry(place)
+            | Refusal::VectorInequality(place)
+            | Refusal::LookAheadReach(place)
+            | Refusal::PartMarks(place) => place,
+            Refusal::LadderTries | Refusal::RegisterChance | Refusal::RegisterFull => 0,
         }
     }
 }
 
 // Two refusals are the same exactly when they are told alike.
+// kept: a derived `==` promises nothing; this one promises that it decides equality
 impl PartialEq for Refusal {
     ghost eq = { same_telling };
 

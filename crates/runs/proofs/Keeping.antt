@@ -23,8 +23,9 @@ use Rattle.flows.specs.Accepts.{Accepted as Flow-accepted}
 use Rattle.flows.proofs.Accepting.{hope-sound, hope_accepts}
 use Rattle.sheets.specs.declared.figures.Bracket.{Bracket}
 use Rattle.sheets.specs.Brackets.{higher_floor, given_delay}
+use Rattle.sheets.specs.Counting.{full, unless_full}
 use Rattle.runs.specs.Acts.{Vector, cap, delay, floor, hope, risk, Act, takes, asks_least, asks_most, accepted, skipped, Standing, first_standing}
-use Rattle.runs.specs.Steps.{meets_hope, with_bound, finding, full, unless_full, skips, after, replied, reply, left_by, left, final}
+use Rattle.runs.specs.Steps.{meets_hope, with_bound, finding, skips, after, replied, reply, left_by, left, final}
 use Rattle.runs.specs.Holds.{Q}
 use Rattle.runs.specs.Promise.{AcceptedIn, marks_of, marks_written, HoldsMarked, FloorAgain, HopeAgain}
 
@@ -32,9 +33,9 @@ use Rattle.runs.specs.Promise.{AcceptedIn, marks_of, marks_written, HoldsMarked,
 ok_accepted : {B : Type 0} (p : Process) (v : Vector) (skip : Bool) (r : Result B Telling)
     → cond skip skipped (replied r) ≡ accepted
     → (skip ≡ false) × (is_ok r ≡ true) × ((b : B) × (cond skip v (left_by r p v) ≡ left_by (Ok b) p v))
-ok_accepted p v true r e = let z : ◌≡◌ {A = ℕ} 0 1 = cc in absurd (omega arith)
+ok_accepted p v true r e = absurd cc
 ok_accepted p v false (Ok b) e = (refl, refl, (b, refl))
-ok_accepted p v false (Err x) e = let z : ◌≡◌ {A = ℕ} 0 1 = cc in absurd (omega arith)
+ok_accepted p v false (Err x) e = absurd cc
 
 -- the bracket meets a bound only where the check has given one
 bound_ok : {B : Type 0} (meets : B → Bracket → Bracket) (r : Result B Telling) → is_ok (with_bound meets r) ≡ true → is_ok r ≡ true

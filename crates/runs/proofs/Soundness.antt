@@ -1,7 +1,7 @@
 -- The bounds hold along every list of calls.
 use Rattle.std.proofs.Common.{◌≡◌, ℕ, min, max, Bool, true, false, cond, ltb, List, [], ◌∷◌, length, is_some, is_ok, Some, None, Ok, Err, sum, Option, Result, sym, refl, ap, ◌∙◌, subst, inl, inr, mul-le-mul_left, arith}
-use native.Mathlib.Nat.{min-eq_left, min-eq_right, max-eq_left, max-eq_right}
 use Rattle.std.proofs.lemmas.Bool.{cases_lt, both_ways}
+use Rattle.std.proofs.lemmas.Option.{none-some}
 use Rattle.refusal.specs.Tellings.{Telling, at_register}
 use Rattle.refusal.specs.Tests.{unless}
 use Rattle.process.specs.Process.{Process, Formed}
@@ -23,8 +23,9 @@ use Rattle.flows.proofs.Accepting.{hope-sound, risk-sound}
 use Rattle.sheets.specs.declared.figures.Bracket.{Bracket}
 use Rattle.sheets.specs.declared.figures.Sheet.{Sheet}
 use Rattle.sheets.specs.Brackets.{first_bracket, lower_cap, higher_floor, given_delay, better_hope, with_hope, lower_risk}
+use Rattle.sheets.specs.Counting.{unless_full}
 use Rattle.runs.specs.Acts.{Vector, cap, delay, floor, hope, risk, Act, takes, asks_least, asks_most, Standing, first_standing}
-use Rattle.runs.specs.Steps.{meets_hope, meets_risk, with_bound, finding, unless_full, counted, sheet_after, after, final}
+use Rattle.runs.specs.Steps.{meets_hope, meets_risk, with_bound, finding, counted, sheet_after, after, final}
 use Rattle.runs.specs.Holds.{Q, BoundsHold}
 
 -- what the delay that settled a register carries
@@ -45,15 +46,15 @@ pub record Carried (d : ℕ) (p : Process) (settled : Bool) (k : Bracket) : Type
 min_either : (P : ℕ → Type 0) (a b : ℕ) → P a → P b → P (min a b)
 min_either P a b l r =
     elim (cases_lt a b) [
-      | inl h ↦ let e : min a b ≡ a = min-eq_left (omega arith) in subst P (sym e) l
-      | inr h ↦ let e : min a b ≡ b = min-eq_right h in subst P (sym e) r
+      | inl h ↦ let e : min a b ≡ a = omega arith in rw e l
+      | inr h ↦ let e : min a b ≡ b = omega arith in rw e r
     ]
 
 max_either : (P : ℕ → Type 0) (a b : ℕ) → P a → P b → P (max a b)
 max_either P a b l r =
     elim (cases_lt a b) [
-      | inl h ↦ let e : max a b ≡ b = max-eq_right {n = a} {m = b} (omega arith) in subst P (sym e) r
-      | inr h ↦ let e : max a b ≡ a = max-eq_left {n = a} {m = b} h in subst P (sym e) l
+      | inl h ↦ let e : max a b ≡ b = omega arith in rw e r
+      | inr h ↦ let e : max a b ≡ a = omega arith in rw e l
     ]
 
 -- an accepted finding comes from an accepted verdict, and meets its bound
@@ -63,10 +64,10 @@ module _ {B : Type 0} (meets : B → Bracket → Bracket) (r : Result B Telling)
     where
       at : (r : Result B Telling) → with_bound meets r ≡ Ok f → is_ok r ≡ true
       at (Ok b) e = refl
-      at (Err x) e = absurd (both_ways false refl (ap is_ok e))
+      at (Err x) e = absurd cc
 
   found_is : (b : B) → r ≡ Ok b → with_bound meets r ≡ Ok f → meets b ≡ f
-  found_is b q e = let e' : with_bound meets (Ok b) ≡ Ok f = ap (with_bound meets) (sym q) ∙ e in cc
+  found_is b q e = cc
 
 -- what holds of a bracket, and of what it meets, holds after a vector
 sheet_keeps : (P : Bracket → Type 0) (found : Result (Bracket → Bracket) Telling) (s : Sheet)
@@ -259,9 +260,6 @@ module _ (d : ℕ) (p : Process) (formed : Formed d p) where
       → Carried d p (final d p acts first_standing).settled (final d p acts first_standing).sheet.bracket
   runs_carried acts = final-carried acts first_standing first-carried
 
-  some-none : (x : ℕ) (o : Option ℕ) → o ≡ Some x → o ≡ None → ⊥
-  some-none x o e f = let z : ◌≡◌ {A = ℕ} 0 1 = cc in omega arith
-
   same_some : (x y : ℕ) (o : Option ℕ) → o ≡ Some x → o ≡ Some y → x ≡ y
   same_some x y o e f = cc
 
@@ -277,7 +275,7 @@ module _ (d : ℕ) (p : Process) (formed : Formed d p) where
             λ delay e.
             subst (λ (x : ℕ). FloorHolds Q d p k.floor x)
             (same_some (value_at s.vector 0) delay k.delay s.bound e) s.floor;
-        open_floor = λ e. absurd (some-none (value_at s.vector 0) k.delay s.bound e);
+        open_floor = λ e. absurd (none-some (value_at s.vector 0) (sym e ∙ s.bound));
         hope_bounds = hopes;
         risk_bounds = risks;
         floor_under_risk = floor_le_risk Q d p formed k.floor (value_at s.vector 0) k.risk s.floor risks;
@@ -289,7 +287,7 @@ module _ (d : ℕ) (p : Process) (formed : Formed d p) where
       let hopes = hope_holds Q d p formed k.hope k.visits h.hope in
       record {
         cap_bounds = h.cap;
-        floor_bounds = λ delay e. absurd (some-none delay k.delay e o.0);
+        floor_bounds = λ delay e. absurd (none-some delay (sym o.0 ∙ e));
         open_floor = λ e. o.1;
         hope_bounds = hopes;
         risk_bounds = risk_holds Q d p formed k.risk h.risk;

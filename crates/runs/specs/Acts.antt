@@ -31,11 +31,15 @@ pub record Standing : Type 0 where
   pub settled : Bool
   pub sheet : Sheet
 
+-- how a register whose stage is settled or not stands at a sheet
+abbrev pub standing_of : Bool → Sheet → Standing
+standing_of t s = record { settled = t; sheet = s }
+
 abbrev pub opened : Sheet → Standing
-opened s = record { settled = false; sheet = s }
+opened s = standing_of false s
 
 abbrev pub settled_at : Sheet → Standing
-settled_at s = record { settled = true; sheet = s }
+settled_at s = standing_of true s
 
 abbrev pub first_standing : Standing
 first_standing = opened first_sheet

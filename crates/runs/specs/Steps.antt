@@ -1,8 +1,7 @@
 -- What each call makes of a register over a process p at scale d: the standing after it, its answer, and what it leaves in
 -- the buffers. Lists of calls follow.
-use Rattle.std.specs.Prelude.{◌≡◌, ℕ, ◌+◌, Bool, true, false, cond, not, List, [], ◌∷◌, length, is_ok, Some, None, Ok, Err, Option, Result, nat_lt}
-use Rattle.refusal.specs.Tellings.{Telling, at_register}
-use Rattle.refusal.specs.Tests.{unless}
+use Rattle.std.specs.Prelude.{◌≡◌, ℕ, ◌+◌, Bool, true, false, cond, not, List, [], ◌∷◌, length, is_ok, Ok, Err, Result, nat_lt}
+use Rattle.refusal.specs.Tellings.{Telling}
 use Rattle.process.specs.Process.{Process}
 use Rattle.kinds.specs.declared.state_kind.StateKind.TheVariants.{Cap, Delay}
 use Rattle.kinds.specs.declared.flow_kind.FlowKind.TheVariants.{Hope, Risk}
@@ -14,6 +13,7 @@ use Rattle.sheets.specs.declared.figures.Bracket.{Bracket}
 use Rattle.sheets.specs.declared.figures.Sheet.{Sheet}
 use Rattle.sheets.specs.declared.questions.Decision.{Decision}
 use Rattle.sheets.specs.Brackets.{lower_cap, higher_floor, given_delay, higher_hope, lower_risk, asked, least_decision, most_decision}
+use Rattle.sheets.specs.Counting.{unless_full}
 use Rattle.runs.specs.Acts.{Vector, cap, delay, floor, hope, risk, Act, takes, asks_least, asks_most, Reply, accepted, refused, said, skipped, Standing, first_standing}
 
 -- how a bracket meets the flow of an accepted hope, or of an accepted risk
@@ -35,18 +35,12 @@ finding d p (floor z m) = with_bound higher_floor (floor_verdict d p z (length m
 finding d p (hope y m t) = with_bound (meets_hope d) (hope_verdict d p y (length m) (length t))
 finding d p (risk y t) = with_bound (meets_risk d) (risk_verdict d p y (length t))
 
--- 51: a full register looks at nothing
-abbrev pub full : Sheet → Option ℕ
-full s = cond (nat_lt s.taken 65535) None (Some 0)
-
-abbrev pub unless_full : {B : Type 0} → Sheet → Result B Telling → Result B Telling
-unless_full s found = unless (at_register 51) (full s) found
-
 -- one more taken, and one more passed where the bracket has met a bound
 abbrev pub counted : Result (Bracket → Bracket) Telling → Sheet → Sheet
 counted (Ok meets) s = record { bracket = meets s.bracket; taken = s.taken + 1; passed = s.passed + 1 }
 counted (Err e) s = record { bracket = s.bracket; taken = s.taken + 1; passed = s.passed }
 
+-- a full register looks at nothing
 abbrev pub sheet_after : Result (Bracket → Bracket) Telling → Sheet → Sheet
 sheet_after found s = cond (nat_lt s.taken 65535) (counted found s) s
 

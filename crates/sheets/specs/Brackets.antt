@@ -79,10 +79,14 @@ higher_hope b v k = cond (better_hope b v k) (with_hope b v k) k
 abbrev pub asked : ℕ → Decision → Result Decision Telling
 asked l answer = cond (nat_le l 1000000) (Ok answer) (Err (at_register 45 0))
 
+-- yes where a bound says that it holds, else no where one says that it fails
+abbrev pub decision : Bool → Bool → Decision
+decision holds fails = cond holds Yes (cond fails No Undecided)
+
 -- every order at least l: yes by the floor, no by the risk
 abbrev pub least_decision : Bracket → ℕ → Decision
-least_decision k l = cond (nat_le l k.floor) Yes (cond (nat_lt k.risk l) No Undecided)
+least_decision k l = decision (nat_le l k.floor) (nat_lt k.risk l)
 
 -- every order at most l: yes by the cap, no by the hope
 abbrev pub most_decision : Bracket → ℕ → Decision
-most_decision k l = cond (nat_le k.cap l) Yes (cond (nat_lt l k.hope) No Undecided)
+most_decision k l = decision (nat_le k.cap l) (nat_lt l k.hope)

@@ -2,6 +2,7 @@
 
 // What a register keeps: the best bounds so far and the counts of vectors, how a bracket meets a new bound, and the
 // questions that it answers.
+mod counting;
 mod figures;
 mod meeting;
 mod questions;

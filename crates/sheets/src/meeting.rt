@@ -1,8 +1,8 @@
 // How a bracket meets the bound of an accepted vector: the better of the two stays.
 ghost use Rattle.std.specs.Prelude.{◌≡◌};
-ghost use Rattle.sheets.specs.Brackets.{first_bracket, first_sheet, lower_cap, higher_floor, given_delay, higher_hope, lower_risk};
+ghost use Rattle.sheets.specs.Brackets.{first_bracket, lower_cap, higher_floor, given_delay, higher_hope, lower_risk};
 
-use crate::figures::{Bracket, Sheet};
+use crate::figures::Bracket;
 
 impl Bracket {
     // What is known before any vector: certainty above, nothing below.
@@ -23,18 +23,14 @@ impl Bracket {
     pub fn meet_cap(&mut self, bound: u32)
         ensures { self.new ≡ lower_cap bound self.old }
     {
-        if bound < self.cap {
-            self.cap = bound;
-        }
+        self.cap = self.cap.min(bound);
     }
 
     // A higher floor replaces what stood.
     pub fn meet_floor(&mut self, bound: u32)
         ensures { self.new ≡ higher_floor bound self.old }
     {
-        if bound > self.floor {
-            self.floor = bound;
-        }
+        self.floor = self.floor.max(bound);
     }
 
     // The delay that settles a register is the one that it keeps.
@@ -48,6 +44,7 @@ impl Bracket {
     pub fn meet_hope(&mut self, bound: u64, visits: u64)
         ensures { self.new ≡ higher_hope bound visits self.old }
     {
+        // kept: pairs with the visits reversed compare the same, and read no plainer
         if self.hope < bound || (self.hope == bound && visits < self.visits) {
             self.hope = bound;
             self.visits = visits;
@@ -58,21 +55,6 @@ impl Bracket {
     pub fn meet_risk(&mut self, bound: u64)
         ensures { self.new ≡ lower_risk bound self.old }
     {
-        if bound < self.risk {
-            self.risk = bound;
-        }
-    }
-}
-
-impl Sheet {
-    // The sheet of a new register.
-    pub fn first() -> Sheet
-        ensures { result ≡ first_sheet }
-    {
-        Sheet {
-            bracket: Bracket::first(),
-            taken: 0,
-            passed: 0,
-        }
+        self.risk = self.risk.min(bound);
     }
 }

@@ -1,7 +1,7 @@
 // What a bracket says of a chance that a planner names, in parts of a million.
 ghost use Rattle.std.specs.Prelude.{◌≡◌};
 ghost use Rattle.refusal.specs.Tellings.{told};
-ghost use Rattle.sheets.specs.Brackets.{asked, least_decision, most_decision};
+ghost use Rattle.sheets.specs.Brackets.{asked, decision, least_decision, most_decision};
 
 use crate::figures::Bracket;
 use refusal::Refusal;
@@ -20,31 +20,29 @@ impl Bracket {
     pub fn at_least(&self, chance: u32) -> Result<Decision, Refusal>
         ensures { told result ≡ asked chance (least_decision self.now chance) }
     {
-        if chance > 1_000_000 {
-            return Err(Refusal::RegisterChance);
-        }
-        if self.floor >= chance {
-            return Ok(Decision::Yes);
-        }
-        if self.risk < chance as u64 {
-            return Ok(Decision::No);
-        }
-        Ok(Decision::Undecided)
+        answer(chance, self.floor >= chance, self.risk < u64::from(chance))
     }
 
     // Does every order reach the target with this chance at most?
     pub fn at_most(&self, chance: u32) -> Result<Decision, Refusal>
         ensures { told result ≡ asked chance (most_decision self.now chance) }
     {
-        if chance > 1_000_000 {
-            return Err(Refusal::RegisterChance);
-        }
-        if self.cap <= chance {
-            return Ok(Decision::Yes);
-        }
-        if self.hope > chance as u64 {
-            return Ok(Decision::No);
-        }
-        Ok(Decision::Undecided)
+        answer(chance, self.cap <= chance, self.hope > u64::from(chance))
     }
+}
+
+// What a question about a chance answers, where one bound may tell that it holds and one that it fails.
+fn answer(chance: u32, holds: bool, fails: bool) -> Result<Decision, Refusal>
+    ensures { told result ≡ asked chance (decision holds fails) }
+{
+    if chance > 1_000_000 {
+        return Err(Refusal::RegisterChance);
+    }
+    Ok(if holds {
+        Decision::Yes
+    } else if fails {
+        Decision::No
+    } else {
+        Decision::Undecided
+    })
 }

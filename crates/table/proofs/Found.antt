@@ -1,5 +1,5 @@
 -- The queries of a table, answered from its lists.
-use Rattle.std.proofs.Common.{◌≡◌, ℕ, ◌+◌, ◌-◌, ◌/◌, ◌<◌, ◌≤◌, true, false, ltb, List, [], length, get_or, take, Some, None, ap, ◌∙◌, inl, inr, arith}
+use Rattle.std.proofs.Common.{◌≡◌, ℕ, ◌+◌, ◌-◌, ◌/◌, ◌<◌, ◌≤◌, true, false, ltb, List, [], length, get_or, take, Some, IfSome, ap, ◌∙◌, inl, inr, arith}
 use Rattle.std.specs.Option.{option_map}
 use Rattle.std.specs.List.{slice_get}
 use Rattle.std.proofs.lemmas.List.{get_or_past}
@@ -16,21 +16,10 @@ use Rattle.encoding.proofs.Moves.{length-moves_read, moves_read-at}
 use Rattle.encoding.proofs.Sound.{Sound, sound}
 use Rattle.table.specs.declared.Table.{Table}
 use Rattle.table.specs.View.{lists_of}
-use Rattle.table.specs.Runs.{option_count, span_of, span_at, run_of, run_at, move_read, run_move}
+use Rattle.table.specs.Runs.{option_count, span_in, span_of, span_at, run_of, run_at, move_read, run_move}
 
 pub good : (t : Table) → Sound 1000 (lists_of t)
 good t = sound 1000 (lists_of t) t.ok
-
--- a state that is not there has no options
-pub span_missing : (l : Lists) (s : ℕ) → None ≡ span_at l s → (o : ℕ) → run_at l s o ≡ None
-span_missing l s e o =
-    elim (cases_lt s (length l.option_starts - 1)) [
-      | inl h ↦
-          let t = lt-ltb s (length l.option_starts - 1) h in let z : ◌≡◌ {A = ℕ} 0 1 = cc in absurd (omega arith)
-      | inr h ↦
-          let past = get_or_past l.option_starts (s + 1) 0 (omega arith) in
-          rw (le-ltb o (option_count l s) (omega arith))
-    ]
 
 -- a span that was found is the state's
 pub span_found : (l : Lists) (s : ℕ) (w : Span) → Some w ≡ span_at l s → (s < length l.option_starts - 1) × (w ≡ span_of l s)
@@ -68,6 +57,30 @@ module _ (d : ℕ) (l : Lists) (k : Sound d l) where
   run_within i h =
       let p = piece_within l.move_starts (moves_read l.moves) k.move_rise i h in
       (p.0, omega (arith, p.1, length-moves_read l.moves))
+
+  pub span-within : (s : ℕ) → IfSome (span_at l s) (λ w. w.first + w.count < length l.move_starts)
+  span-within s =
+      elim (cases_lt s (length l.option_starts - 1)) [
+        | inl h ↦ let w = span_within s h in rw (lt-ltb s (length l.option_starts - 1) h) (omega (arith, w.0, w.1))
+        | inr h ↦ rw (le-ltb s (length l.option_starts - 1) h) tt
+      ]
+
+  -- an option of a span that was found stands where the run of the option does
+  pub run_there : (s o : ℕ) (w : Span) → Some w ≡ span_at l s → o < w.count → span_in l.move_starts (w.first + o) ≡ run_at l s o
+  run_there s o w e h =
+      let f = (span_found l s w e).1 in
+      let n : o < option_count l s = omega (arith, ap (λ (w : Span). w.count) f) in
+      let t : ltb (get_or l.option_starts s 0 + o) (length l.move_starts - 1) ≡ true = lt-ltb _ _ (omega (arith, option-within s o n)) in
+      rw (f, lt-ltb o (option_count l s) n, t)
+
+  pub run-within : (s o : ℕ) → IfSome (run_at l s o) (λ w. w.first + w.count ≤ length l.moves / 2)
+  run-within s o =
+      elim (cases_lt o (option_count l s)) [
+        | inl h ↦
+            let w = run_within (get_or l.option_starts s 0 + o) (option-within s o h) in
+            rw (lt-ltb o (option_count l s) h) (omega (arith, w.0, w.1))
+        | inr h ↦ rw (le-ltb o (option_count l s) h) tt
+      ]
 
   pub span_read : (s : ℕ) → options_at (process_read l) s ≡ span_at l s
   span_read s =

@@ -5,24 +5,27 @@ use Rattle.process.specs.declared.place.Span.{Span}
 use Rattle.encoding.specs.Lists.{Lists}
 use Rattle.encoding.specs.Reading.{place_read}
 
--- how many options a state has
-abbrev pub option_count : Lists → ℕ → ℕ
-option_count l s = slice_index l.option_starts (s + 1) - slice_index l.option_starts s
+-- where part i of a list stands, from the starts of its parts
+abbrev pub span_from : List ℕ → ℕ → Span
+span_from us i = record { first = slice_index us i; count = slice_index us (i + 1) - slice_index us i }
+
+abbrev pub span_in : List ℕ → ℕ → Option Span
+span_in us i = cond (nat_lt i (length us - 1)) (Some (span_from us i)) None
 
 -- the options of a state
 abbrev pub span_of : Lists → ℕ → Span
-span_of l s = record { first = slice_index l.option_starts s; count = option_count l s }
+span_of l s = span_from l.option_starts s
 
 abbrev pub span_at : Lists → ℕ → Option Span
-span_at l s = cond (nat_lt s (length l.option_starts - 1)) (Some (span_of l s)) None
+span_at l s = span_in l.option_starts s
+
+-- how many options a state has
+abbrev pub option_count : Lists → ℕ → ℕ
+option_count l s = (span_of l s).count
 
 -- the moves of option k of the whole list
 abbrev pub run_of : Lists → ℕ → Span
-run_of l k =
-    record {
-      first = slice_index l.move_starts k;
-      count = slice_index l.move_starts (k + 1) - slice_index l.move_starts k;
-    }
+run_of l k = span_from l.move_starts k
 
 abbrev pub run_at : Lists → ℕ → ℕ → Option Span
 run_at l s o = cond (nat_lt o (option_count l s)) (Some (run_of l ((span_of l s).first + o))) None

@@ -2,11 +2,12 @@
 use Rattle.std.specs.Prelude.{[], ◌∷◌}
 use Rattle.process.specs.Process.{Process}
 use Rattle.process.specs.Parts.{gone}
-use Rattle.encoding.specs.Lists.{Lists, lists}
+use Rattle.encoding.specs.Lists.{Lists}
+use Rattle.encoding.specs.Lent.{lent}
 use Rattle.table.specs.declared.Table.{Table}
 
 abbrev pub lists_of : Table → Lists
-lists_of t = lists t.options.now t.starts.now t.moves.now
+lists_of t = lent t.lists
 
 -- one state with one option, whose one move goes to the exit
 abbrev pub empty_depot : Process

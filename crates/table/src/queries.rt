@@ -1,53 +1,45 @@
-ghost use Rattle.std.specs.Prelude.{◌≡◌, ◌+◌, ◌/◌, ◌<◌, ◌≤◌, length, IfSome};
+ghost use Rattle.std.specs.Prelude.{◌≡◌, ℕ, ◌+◌, ◌/◌, ◌<◌, ◌≤◌, length, slice_index, IfSome};
 ghost use Rattle.encoding.specs.Reading.{process_read};
 ghost use Rattle.table.specs.View.{lists_of};
-ghost use Rattle.table.specs.Runs.{span_at, run_of, run_at};
+ghost use Rattle.table.specs.Runs.{span_in, span_at, run_at};
 ghost use Rattle.table.specs.Laws.{formed_table};
 
 use crate::Table;
 use crate::reading::read_move;
 use process::{Model as ProcessModel, Move, Span};
 
+// where part `index` of a list stands, from the starts of its parts
+fn span_in(starts: &[u32], index: usize) -> Option<Span>
+    requires { (k : ℕ) → k + 1 < length starts.now → slice_index starts.now k ≤ slice_index starts.now (k + 1) }
+    ensures { result ≡ span_in starts.now index }
+{
+    let first = *starts.get(index)? as usize;
+    let end = *starts.get(index + 1)? as usize;
+    Some(Span {
+        first,
+        count: end - first,
+    })
+}
+
 impl Table<'_> {
     // the options of a state, counted through the whole table
     fn span(&self, state: usize) -> Option<Span>
         ensures value { result ≡ span_at (lists_of self.now) state }
-        ensures within { IfSome result (λ w. w.first + w.count < length self.now.starts.now) }
+        ensures within { IfSome result (λ w. w.first + w.count < length self.now.lists.starts.now) }
     {
-        if state >= self.options.len() - 1 {
-            return None;
-        }
-        let first = self.options[state] as usize;
-        Some(Span {
-            first,
-            count: self.options[state + 1] as usize - first,
-        })
+        span_in(self.lists.options, state)
     }
 
-    // where the moves of an option stand in the list of moves, the option counted through the whole table
-    fn run_of(&self, number: usize) -> Span
-        requires { number + 1 < length self.now.starts.now }
-        ensures value { result ≡ run_of (lists_of self.now) number }
-        ensures within { result.first + result.count ≤ length self.now.moves.now / 2 }
-    {
-        let first = self.starts[number] as usize;
-        Span {
-            first,
-            count: self.starts[number + 1] as usize - first,
-        }
-    }
-
-    // the same, the option named by its state and its place there
+    // where the moves of an option stand in the list of moves
     fn run(&self, state: usize, option: usize) -> Option<Span>
         ensures value { result ≡ run_at (lists_of self.now) state option }
-        ensures within { IfSome result (λ w. w.first + w.count ≤ length self.now.moves.now / 2) }
+        ensures within { IfSome result (λ w. w.first + w.count ≤ length self.now.lists.moves.now / 2) }
     {
         let span = self.span(state)?;
-        if option < span.count {
-            Some(self.run_of(span.first + option))
-        } else {
-            None
+        if option >= span.count {
+            return None;
         }
+        span_in(self.lists.starts, span.first + option)
     }
 }
 
@@ -67,7 +59,7 @@ impl<'a> ProcessModel for Table<'a> {
     }
 
     fn states(&self) -> usize {
-        self.options.len() - 1
+        self.lists.options.len() - 1
     }
 
     fn options(&self, state: usize) -> Option<Span> {
@@ -75,22 +67,15 @@ impl<'a> ProcessModel for Table<'a> {
     }
 
     fn moves(&self, state: usize, option: usize) -> Option<usize> {
-        match self.run(state, option) {
-            None => None,
-            Some(run) => Some(run.count),
-        }
+        Some(self.run(state, option)?.count)
     }
 
     fn move_at(&self, state: usize, option: usize, index: usize) -> Option<Move> {
-        match self.run(state, option) {
-            None => None,
-            Some(run) => {
-                if index < run.count {
-                    Some(read_move(self.moves, run.first + index))
-                } else {
-                    None
-                }
-            }
+        let run = self.run(state, option)?;
+        if index >= run.count {
+            return None;
         }
+        let at = 2 * (run.first + index);
+        Some(read_move(&self.lists.moves[at..at + 2]))
     }
 }

@@ -1,15 +1,15 @@
 // One move out of a list of places and weights.
-ghost use Rattle.std.specs.Prelude.{◌≡◌, ◌/◌, ◌<◌, length};
+ghost use Rattle.std.specs.Prelude.{◌≡◌, length};
 ghost use Rattle.encoding.specs.Reading.{place_read};
 ghost use Rattle.table.specs.Runs.{move_read};
 
 use process::{End, Move, Place};
 
-pub(crate) fn read_move(moves: &[u32], index: usize) -> Move
-    requires { index < length moves.now / 2 }
-    ensures { result ≡ move_read moves.now index }
+pub(crate) fn read_move(pair: &[u32]) -> Move
+    requires { length pair.now ≡ 2 }
+    ensures { result ≡ move_read pair.now 0 }
 {
-    let (place, weight) = (moves[2 * index], moves[2 * index + 1]);
+    let (place, weight) = (pair[0], pair[1]);
     Move {
         place: read_place(place),
         weight,

@@ -1,8 +1,13 @@
 use depot_text::split_input;
 
+// how long the depot text is, how many lines it has, and how long what follows is
 fn parts(input: &[u8]) -> (usize, usize, usize) {
     let split = split_input(input);
-    (split.depot.len(), split.lines, split.rest.len())
+    (
+        split.depot.len(),
+        split.vectors.at().saturating_sub(1),
+        split.vectors.rest().len(),
+    )
 }
 
 #[test]

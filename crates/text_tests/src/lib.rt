@@ -8,5 +8,7 @@ mod inputs;
 #[cfg(test)]
 mod limits;
 #[cfg(test)]
+mod told;
+#[cfg(test)]
 mod vectors;
 mod worked;

@@ -1,4 +1,6 @@
+use crate::told::told;
 use depot_text::load;
+use passes::Lent;
 use std::alloc::{AllocError, Global};
 use std::test::Fail;
 
@@ -18,37 +20,33 @@ fn large(heap: Global, options: u32, moves: u32) -> Result<Vec<u8>, AllocError> 
     Ok(text)
 }
 
-// what loading tells, into lists that hold more than a model may have
-fn tried(heap: Global, text: &[u8]) -> Result<(u8, usize), AllocError> {
+// how many moves are loaded, into lists that hold more than a model may have
+fn tried(heap: Global, text: &[u8]) -> Result<Result<usize, (u8, usize)>, AllocError> {
     let mut options = vec![in heap; 0u32; 10]?;
     let mut starts = vec![in heap; 0u32; 20000]?;
     let mut moves = vec![in heap; 0u32; 140000]?;
-    Ok(
-        match load(
-            text,
-            options.as_mut_slice(),
-            starts.as_mut_slice(),
-            moves.as_mut_slice(),
-        ) {
-            Ok(size) => (0, size.moves),
-            Err(refusal) => (refusal.number(), refusal.place()),
-        },
-    )
+    let lists = Lent {
+        options: options.as_mut_slice(),
+        starts: starts.as_mut_slice(),
+        moves: moves.as_mut_slice(),
+    };
+    let loaded = load(text, lists);
+    Ok(loaded.map(|size| size.moves).map_err(told))
 }
 
-// options, moves of each, and what is told
-const CASES: [(u32, u32, u8, usize); 4] = [
-    (16384, 1, 0, 16384),
-    (16385, 1, 14, 49156),
-    (1, 65536, 0, 65536),
-    (1, 65537, 14, 131077),
+// options, moves of each, and how many moves are loaded or what is refused
+const CASES: [(u32, u32, Result<usize, (u8, usize)>); 4] = [
+    (16384, 1, Ok(16384)),
+    (16385, 1, Err((14, 49156))),
+    (1, 65536, Ok(65536)),
+    (1, 65537, Err((14, 131077))),
 ];
 
 #[test]
 fn limits(rt: HostRuntime) -> Result<(), Fail> {
-    for (options, moves, number, place) in CASES {
+    for (options, moves, expected) in CASES {
         let text = large(rt.alloc(), options, moves)?;
-        assert_eq!(rt; tried(rt.alloc(), text.as_slice())?, (number, place));
+        assert_eq!(rt; tried(rt.alloc(), text.as_slice())?, expected);
     }
     Ok(())
 }

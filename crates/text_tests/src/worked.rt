@@ -1,5 +1,4 @@
 // The worked depot as text, and the same with one line changed.
-use lines::line_width;
 use std::alloc::{AllocError, Global};
 
 pub(crate) fn worked() -> &'static [u8] {
@@ -14,15 +13,9 @@ pub(crate) fn changed(
     line: &[u8],
 ) -> Result<Vec<u8>, AllocError> {
     let mut out = Vec::new(heap);
-    let mut rest = text;
-    for count in 1..100 {
-        let end = line_width(rest);
-        if count == at {
-            out.extend_from_slice(line)?;
-        } else {
-            out.extend_from_slice(&rest[0..end])?;
-        }
-        rest = &rest[end..];
+    let lines = text.split_inclusive(|b| *b == b'\n').chain([&b""[..]]);
+    for (i, old) in lines.enumerate() {
+        out.extend_from_slice(if i + 1 == at { line } else { old })?;
     }
     Ok(out)
 }

@@ -1,11 +1,12 @@
 // Checks over ladders and parts of ladders.
-use crate::worked::told;
+use crate::checks::{Told, states_checked};
 use flows::check_hope;
+use kinds::StateKind;
 use ladder::{Chances, Ladder};
 use part::Part;
 use process::Model;
 use std::test::Fail;
-use vectors::{check_cap, check_delay, check_floor};
+use vectors::check_floor;
 
 fn chances(target: u32, exit: u32, again: u32) -> Chances {
     Chances {
@@ -15,22 +16,10 @@ fn chances(target: u32, exit: u32, again: u32) -> Chances {
     }
 }
 
-fn cap_told<M: Model>(model: &M, entries: &[u32]) -> (u8, usize)
+fn refused<M: Model>(model: &M, kind: StateKind, entries: &[u32]) -> Option<Told>
     requires { M.Model.valid model.now }
 {
-    match check_cap(model, entries) {
-        Ok(_) => (0, 0),
-        Err(refusal) => told(refusal),
-    }
-}
-
-fn delay_told<M: Model>(model: &M, entries: &[u32]) -> (u8, usize)
-    requires { M.Model.valid model.now }
-{
-    match check_delay(model, entries) {
-        Ok(_) => (0, 0),
-        Err(refusal) => told(refusal),
-    }
+    states_checked(model, kind, entries, &mut []).err()
 }
 
 // A ladder that only waits: its floor meets the inequality though the target is never reached, and no delay passes.
@@ -41,7 +30,7 @@ fn waiting_for_good(rt: HostRuntime) -> Result<(), Fail> {
     assert_eq!(rt; check_floor(&ladder, &[1000000], &mut marks)?, 1000000);
     assert_eq!(rt; marks[0], 1);
     for delay in [0u32, 1, 2, 1000000, 1073741824] {
-        assert_eq!(rt; delay_told(&ladder, &[delay]), (43, 0));
+        assert_eq!(rt; refused(&ladder, StateKind::Delay, &[delay]), Some((43, 0)));
     }
     Ok(())
 }
@@ -50,12 +39,18 @@ fn waiting_for_good(rt: HostRuntime) -> Result<(), Fail> {
 #[test]
 fn two_tries(rt: HostRuntime) -> Result<(), Fail> {
     let ladder = Ladder::new(2, chances(2048, 1024, 0), chances(1024, 0, 1024))?;
-    assert_eq!(rt; cap_told(&ladder, &[666667, 500000]), (0, 0));
-    assert_eq!(rt; cap_told(&ladder, &[666666, 500000]), (43, 1));
-    assert_eq!(rt; cap_told(&ladder, &[666667, 499999]), (43, 2));
-    assert_eq!(rt; delay_told(&ladder, &[3, 2]), (0, 0));
-    assert_eq!(rt; delay_told(&ladder, &[2, 2]), (43, 1));
-    assert_eq!(rt; delay_told(&ladder, &[3, 1]), (43, 3));
+    assert_eq!(rt; refused(&ladder, StateKind::Cap, &[666667, 500000]), None);
+    assert_eq!(rt;
+        refused(&ladder, StateKind::Cap, &[666666, 500000]),
+        Some((43, 1))
+    );
+    assert_eq!(rt;
+        refused(&ladder, StateKind::Cap, &[666667, 499999]),
+        Some((43, 2))
+    );
+    assert_eq!(rt; refused(&ladder, StateKind::Delay, &[3, 2]), None);
+    assert_eq!(rt; refused(&ladder, StateKind::Delay, &[2, 2]), Some((43, 1)));
+    assert_eq!(rt; refused(&ladder, StateKind::Delay, &[3, 1]), Some((43, 3)));
     Ok(())
 }
 
@@ -65,14 +60,17 @@ fn parts_of_two_tries(rt: HostRuntime) -> Result<(), Fail> {
     let ladder = Ladder::new(2, chances(2048, 1024, 0), chances(1024, 0, 1024))?;
     let mut part = Part::new(ladder);
     part.fill(&[1])?;
-    assert_eq!(rt; cap_told(&part, &[500000, 0]), (0, 0));
-    assert_eq!(rt; cap_told(&part, &[499999, 0]), (43, 0));
+    assert_eq!(rt; refused(&part, StateKind::Cap, &[500000, 0]), None);
+    assert_eq!(rt; refused(&part, StateKind::Cap, &[499999, 0]), Some((43, 0)));
     let mut inner = Part::new(part);
     inner.fill(&[1, 1])?;
-    assert_eq!(rt; cap_told(&inner, &[500000, 0]), (0, 0));
-    assert_eq!(rt; cap_told(&inner, &[499999, 0]), (43, 0));
+    assert_eq!(rt; refused(&inner, StateKind::Cap, &[500000, 0]), None);
+    assert_eq!(rt;
+        refused(&inner, StateKind::Cap, &[499999, 0]),
+        Some((43, 0))
+    );
     inner.fill(&[0, 1])?;
-    assert_eq!(rt; cap_told(&inner, &[0, 0]), (0, 0));
+    assert_eq!(rt; refused(&inner, StateKind::Cap, &[0, 0]), None);
     Ok(())
 }
 
@@ -81,7 +79,7 @@ fn parts_of_two_tries(rt: HostRuntime) -> Result<(), Fail> {
 fn the_longest_ladder(rt: HostRuntime) -> Result<(), Fail> {
     let ladder = Ladder::new(4096, chances(4096, 0, 0), chances(1, 0, 0))?;
     let caps = vec![in rt.alloc(); 1000000u32; 4096]?;
-    assert_eq!(rt; cap_told(&ladder, caps.as_slice()), (0, 0));
+    assert_eq!(rt; refused(&ladder, StateKind::Cap, caps.as_slice()), None);
     let mut flows = vec![in rt.alloc(); 0u32; 8192]?;
     let mut marks = vec![in rt.alloc(); 0u8; 4096]?;
     let mut tally = vec![in rt.alloc(); 0u64; 4096]?;

@@ -1,15 +1,18 @@
 // The worked depot of two states and three options.
+use encoding::Lists;
 use refusal::Refusal;
+use table::Table;
 
-pub(crate) const OPTIONS: [u32; 3] = [0, 2, 3];
+const DEPOT: Lists = Lists {
+    options: &[0, 2, 3],
+    starts: &[0, 3, 6, 8],
+    moves: &[
+        1, 500, 4096, 300, 4097, 200, 0, 400, 4096, 400, 4097, 200, 4096, 600, 4097, 400,
+    ],
+};
 
-pub(crate) const STARTS: [u32; 4] = [0, 3, 6, 8];
-
-pub(crate) const MOVES: [u32; 16] = [
-    1, 500, 4096, 300, 4097, 200, 0, 400, 4096, 400, 4097, 200, 4096, 600, 4097, 400,
-];
-
-// number and place of a refusal
-pub(crate) fn told(refusal: Refusal) -> (u8, usize) {
-    (refusal.number(), refusal.place())
+pub(crate) fn worked() -> Result<Table<'static>, Refusal> {
+    let mut table = Table::empty();
+    table.open(DEPOT)?;
+    Ok(table)
 }

@@ -1,6 +1,7 @@
 -- The items of a vector text and their lines: what each says, and the text cut into them.
-use Rattle.std.proofs.Common.{◌≡◌, ℕ, ◌^◌, ◌<◌, true, List, [], ◌∷◌, ◌++◌, map, codes, decimal, sym, refl, ap, ◌∙◌, subst, append_assoc, arith, length-append}
-use Rattle.std.specs.List.{flat_map as written_all, AllByRecursion as Every}
+use Rattle.std.proofs.Common.{◌≡◌, ℕ, ◌^◌, ◌<◌, Bool, true, List, [], ◌∷◌, ◌++◌, map, Some, None, Option, codes, decimal, sym, refl, ap, ◌∙◌, subst, append_assoc, arith, length-append}
+use Rattle.std.specs.List.{flat_map as written_all, AllByRecursion as Every, find}
+use Rattle.std.specs.Option.{IfSome}
 use Rattle.std.specs.Str.{bytes_eq}
 use Rattle.std.proofs.lemmas.Slice.Eq.{bytes_eq-Decides}
 use Rattle.std.proofs.lemmas.Bool.{cond_both, and_parts}
@@ -12,11 +13,12 @@ use Rattle.passes.specs.Passes.{on_said, on_line}
 use Rattle.passes.proofs.Cuts.{lines_cut}
 use Rattle.vector_text.specs.declared.format.Kind.{Kind}
 use Rattle.vector_text.specs.declared.format.Kind.TheVariants.{Cap, Floor, Delay, Hope, Risk}
-use Rattle.vector_text.specs.declared.format.Item.{Item}
-use Rattle.vector_text.specs.declared.format.Item.TheVariants as item
+use Rattle.vector_text.specs.declared.item.Item.{Item}
+use Rattle.vector_text.specs.declared.item.Item.TheVariants as item
 use Rattle.vector_text.specs.declared.format.Vector.{Vector}
-use Rattle.vector_text.specs.Machine.{kind_item, word_item, item_of, on_item, next}
-use Rattle.vector_text.specs.Spelling.{kind_word, entry_line, render}
+use Rattle.vector_text.specs.Words.{kind_word, kinds, kind_named}
+use Rattle.vector_text.specs.Machine.{vector_of, word_item, item_of, on_item, next}
+use Rattle.vector_text.specs.Spelling.{entry_line, render}
 
 -- what an item's line says, and the line
 abbrev pub says : Item → Said
@@ -67,17 +69,18 @@ Means s i = (i ≡ item.Other → ⊥) → (s ≡ says i) × ProperItem i
 bytes_same : (a b : List ℕ) → bytes_eq a b ≡ true → a ≡ b
 bytes_same a b t = (bytes_eq-Decides a b).0 t
 
+-- what is found passes
+found_passes : {X : Type 0} (p : X → Bool) (xs : List X) → IfSome (find p xs) (λ x. p x ≡ true)
+found_passes p [] = tt
+found_passes p (x ∷ xs) =
+    cond_both (p x) (Some x) (find p xs) (λ o. IfSome o (λ y. p y ≡ true)) (λ t. t) (λ _. found_passes p xs)
+
 word_means : (key v : List ℕ) → Means (says_word key v) (word_item key v)
 word_means key v =
     cond_both _ item.End _ P
     (λ t _. let p = and_parts (bytes_eq key (codes "end")) _ t in (both (codes "end") (codes "vector") p.0 p.1, tt))
-    (λ _. cond_both _ (kind_item v) item.Other P
-    (λ t. cond_both _ (item.Vector Cap) _ P (λ u _. (both (codes "vector") (codes "cap") t u, tt))
-    (λ _. cond_both _ (item.Vector Floor) _ P (λ u _. (both (codes "vector") (codes "floor") t u, tt))
-    (λ _. cond_both _ (item.Vector Delay) _ P (λ u _. (both (codes "vector") (codes "delay") t u, tt))
-    (λ _. cond_both _ (item.Vector Hope) _ P (λ u _. (both (codes "vector") (codes "hope") t u, tt))
-    (λ _. cond_both _ (item.Vector Risk) item.Other P (λ u _. (both (codes "vector") (codes "risk") t u, tt))
-    (λ _ g. absurd (g refl)))))))
+    (λ _. cond_both _ (vector_of (kind_named v)) item.Other P
+    (λ t. named t (kind_named v) (found_passes (λ k. bytes_eq v (kind_word k)) kinds))
     (λ _ g. absurd (g refl)))
   where
     P : Item → Type 0
@@ -85,6 +88,11 @@ word_means key v =
 
     both : (k w : List ℕ) → bytes_eq key k ≡ true → bytes_eq v w ≡ true → says_word key v ≡ says_word k w
     both k w t u = λ i. says_word (bytes_same key k t i) (bytes_same v w u i)
+
+    named : bytes_eq key (codes "vector") ≡ true → (o : Option Kind)
+        → IfSome o (λ k. bytes_eq v (kind_word k) ≡ true) → P (vector_of o)
+    named t None u g = absurd (g refl)
+    named t (Some k) u g = (both (codes "vector") (kind_word k) t u, tt)
 
 number_means : (key : List ℕ) (n : ℕ) → n < 2 ^ 32
     → Means (says_number key (decimal n) n) (item_of (says_number key (decimal n) n))

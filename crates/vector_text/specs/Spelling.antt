@@ -7,15 +7,8 @@ use Rattle.lines.specs.Writing.{written}
 use Rattle.passes.specs.Texts.{lines}
 use Rattle.passes.specs.Over.{over}
 use Rattle.vector_text.specs.declared.format.Kind.{Kind}
-use Rattle.vector_text.specs.declared.format.Kind.TheVariants.{Cap, Floor, Delay, Hope, Risk}
+use Rattle.vector_text.specs.Words.{kind_word}
 use Rattle.vector_text.specs.Reading.{Header}
-
-abbrev pub kind_word : Kind → List ℕ
-kind_word Cap = codes "cap"
-kind_word Floor = codes "floor"
-kind_word Delay = codes "delay"
-kind_word Hope = codes "hope"
-kind_word Risk = codes "risk"
 
 abbrev pub entry_line : ℕ → List ℕ
 entry_line n = written (says_number (codes "entry") (decimal n) n)

@@ -3,7 +3,9 @@
 // Vector text: one vector after another, each read whole or refused at its first bad line.
 mod automaton;
 mod format;
+mod item;
 mod reading;
 
-pub use format::{Item, Kind, Phase, Vector};
+pub use format::{Kind, Phase, Vector};
+pub use item::Item;
 pub use reading::{Found, read_vector};

@@ -1,73 +1,50 @@
 ghost use Rattle.std.specs.Prelude.{◌≡◌, ◌+◌, ◌<◌, ◌≤◌, [], length, IfOk};
 ghost use Rattle.refusal.specs.Tellings.{told_as};
 ghost use Rattle.encoding.specs.Lists.{lists as three};
-ghost use Rattle.passes.specs.View.{view};
 ghost use Rattle.vector_text.specs.Reading.{answer, left, found};
 ghost use Rattle.vector_text.specs.Spelling.{ReadAsSpelled};
 
 use crate::format::{Kind, Phase, Vector};
+use lines::Text;
 use passes::{Lent, pass};
 use refusal::Refusal;
 
-// A vector that was read: its kind, how many entries it has, and the text after it with the number of its first line.
-#[derive(Clone, Copy)]
+// A vector that was read: its kind, how many entries it has, and the text after it.
+#[derive(Clone, Copy, Debug)]
 pub struct Found<'a> {
     pub kind: Kind,
+    // kept: a rule of the project, the list is lent, with no heap, and may have more room than the vector takes
     pub count: usize,
-    pub at: usize,
-    pub rest: &'a [u8],
+    pub text: Text<'a>,
 }
 
-fn fill<'a>(first: u32, text: &'a [u8], lists: &mut Lent<'_>) -> Result<Found<'a>, Refusal>
-    ensures answer { told_as found result ≡ answer first text.now (view lists.old) }
-    ensures near { IfOk result (λ x. (first < x.at) × (x.at + length x.rest.now ≤ first + length text.now)) }
-    ensures lists { view lists.new ≡ left first text.now (view lists.old) }
-    ensures options { lists.new.options.ghost_name ≡ lists.old.options.ghost_name }
-    ensures starts { lists.new.starts.ghost_name ≡ lists.old.starts.ghost_name }
-    ensures moves { lists.new.moves.ghost_name ≡ lists.old.moves.ghost_name }
+// Reads one vector into a list, once the whole of it has been checked. Entries past those of the vector stay; after a
+// refusal the list is as it was.
+#[tactic(auto, using(crate::proofs::Law::read_by))]
+pub fn read_vector<'a>(text: Text<'a>, entries: &mut [u32]) -> Result<Found<'a>, Refusal>
+    ensures answer { told_as found result ≡ answer text.entry.at text.entry.rest.now (three [] [] entries.old) }
+    ensures near { IfOk result (λ x. (text.entry.at < x.text.at) × (x.text.at + length x.text.rest.now ≤ text.entry.at + length text.entry.rest.now)) }
+    ensures entries { entries.new ≡ (left text.entry.at text.entry.rest.now (three [] [] entries.old)).moves }
+    ensures spelled { ReadAsSpelled text.entry.at text.entry.rest.now entries.old (told_as found result) entries.new }
 {
     let vector = Vector {
         phase: Phase::Start,
-        kind: Kind::Cap,
-        room: lists.moves.len(),
+        room: entries.len(),
         count: 0,
-        entry: 0,
     };
-    let passed = pass(vector, first, text, false, lists)?;
-    let _ = pass(vector, first, text, true, lists);
-    Ok(Found {
-        kind: passed.state.kind,
-        count: passed.state.count,
-        at: passed.at,
-        rest: passed.rest,
-    })
-}
-
-// into one list
-fn read_into<'a>(first: u32, text: &'a [u8], entries: &mut [u32]) -> Result<Found<'a>, Refusal>
-    ensures answer { told_as found result ≡ answer first text.now (three [] [] entries.old) }
-    ensures near { IfOk result (λ x. (first < x.at) × (x.at + length x.rest.now ≤ first + length text.now)) }
-    ensures entries { entries.new ≡ (left first text.now (three [] [] entries.old)).moves }
-{
-    let mut lists = Lent {
-        options: &mut [],
-        starts: &mut [],
+    let passed = pass(vector, text, Lent::default())?;
+    let lent = Lent {
         moves: entries,
+        ..Lent::default()
     };
-    fill(first, text, &mut lists)
-}
-
-// Reads one vector, whose first line has a number, into a list. Entries past those of the vector stay; after a refusal
-// the list is as it was.
-pub fn read_vector<'a>(
-    first: u32,
-    text: &'a [u8],
-    entries: &mut [u32],
-) -> Result<Found<'a>, Refusal>
-    ensures answer { told_as found result ≡ answer first text.now (three [] [] entries.old) }
-    ensures near { IfOk result (λ x. (first < x.at) × (x.at + length x.rest.now ≤ first + length text.now)) }
-    ensures entries { entries.new ≡ (left first text.now (three [] [] entries.old)).moves }
-    ensures spelled { ReadAsSpelled first text.now entries.old (told_as found result) entries.new }
-{
-    read_into(first, text, entries)
+    let _ = pass(vector, text, lent);
+    let Phase::End(kind) = passed.state.phase else {
+        // no pass stops here, since it goes on to the end of a vector or is refused
+        return Err(Refusal::TextOrder(passed.text.at()));
+    };
+    Ok(Found {
+        kind,
+        count: passed.state.count,
+        text: passed.text,
+    })
 }

@@ -193,6 +193,17 @@ module _ (k : StateKind) (d : ℕ) (p : Process) (z : List ℕ) where
           let e : r.0 ≡ i = omega (arith, r.1) in
           subst (FirstFailure (length z) (λ j. value_at z j ≤ limit_of k)) e r.2
 
+  -- for the contract of `judge`
+  pub judgement_decides : (r : Result ℕ Refusal) → told r ≡ judgement k d p z → length z ≡ length p
+      → Decides (is_ok r) (Accepted k d p z)
+  judgement_decides r e l = (
+    λ t. (judged (ap is_ok (sym e) ∙ told_ok r ∙ t) l).0,
+    λ h. sym (told_ok r) ∙ ap is_ok (e ∙ judges h),
+  )
+
+  pub judgement_names : (r : Result ℕ Refusal) → told r ≡ judgement k d p z → FirstNamed k d p z (told r)
+  judgement_names r e = subst (FirstNamed k d p z) (sym e) names
+
 -- a test of lengths before another answer
 module _ {A : Type 0} (tests : List Bool) (next : Result A Telling) where
   pub levels_pass : is_ok (unless (at_vector 41) (first_false tests) next) ≡ true → Every (λ t. t ≡ true) tests × (is_ok next ≡ true)
@@ -201,10 +212,6 @@ module _ {A : Type 0} (tests : List Bool) (next : Result A Telling) where
 
   pub pass_levels : Every (λ t. t ≡ true) tests → unless (at_vector 41) (first_false tests) next ≡ next
   pass_levels h = ok_unless (at_vector 41) (first_false tests) next (none-fails (λ t. t) 0 tests h)
-
-  pub levels_err : (n i : ℕ) → (41 ≡ n → ⊥) → unless (at_vector 41) (first_false tests) next ≡ Err (at_vector n i)
-      → next ≡ Err (at_vector n i)
-  levels_err n i other e = unless_err (at_vector 41) (first_false tests) next (at_vector n i) e (λ j. other)
 
 module _ (k : StateKind) (d : ℕ) (p : Process) (z : List ℕ) where
   abbrev long : List Bool
@@ -219,24 +226,6 @@ module _ (k : StateKind) (d : ℕ) (p : Process) (z : List ℕ) where
   pub verdict_accepts : Accepted k d p z → verdict k d p z ≡ Ok (value_at z 0)
   verdict_accepts h =
       pass_levels long (judgement k d p z) (eq-eqb (length z) (length p) h.one_each, tt) ∙ judges k d p z h
-
-  -- for the contracts of the checks
-  names_after : (tests : List Bool) (r : Result ℕ Telling)
-      → r ≡ unless (at_vector 41) (first_false tests) (judgement k d p z) → FirstNamed k d p z r
-  names_after tests r q =
-      record {
-        entry = λ i e. (names k d p z).entry i (levels_err tests (judgement k d p z) 42 i (λ n. omega arith) (sym q ∙ e));
-        option = λ i e. (names k d p z).option i (levels_err tests (judgement k d p z) 43 i (λ n. omega arith) (sym q ∙ e));
-      }
-
-  pub verdict_decides : (r : Result ℕ Refusal) → told r ≡ verdict k d p z → Decides (is_ok r) (Accepted k d p z)
-  verdict_decides r e = (
-    λ t. (verdict-sound (ap is_ok (sym e) ∙ told_ok r ∙ t)).0,
-    λ h. sym (told_ok r) ∙ ap is_ok (e ∙ verdict_accepts h),
-  )
-
-  pub verdict_names : (r : Result ℕ Refusal) → told r ≡ verdict k d p z → FirstNamed k d p z (told r)
-  verdict_names r e = names_after long (told r) e
 
 module _ (d : ℕ) (p : Process) (z : List ℕ) (m : ℕ) where
   abbrev both_long : List Bool
@@ -254,13 +243,3 @@ module _ (d : ℕ) (p : Process) (z : List ℕ) (m : ℕ) where
       pass_levels both_long (judgement Floor d p z)
       (eq-eqb (length z) (length p) h.one_each, (eq-eqb m (length p) l, tt))
       ∙ judges Floor d p z h
-
-  pub floor_decides : (r : Result ℕ Refusal) → told r ≡ floor_verdict d p z m
-      → Decides (is_ok r) (Accepted Floor d p z × (m ≡ length p))
-  floor_decides r e = (
-    λ t. let f = floor-sound (ap is_ok (sym e) ∙ told_ok r ∙ t) in (f.0, f.1),
-    λ h. sym (told_ok r) ∙ ap is_ok (e ∙ floor_accepts h.0 h.1),
-  )
-
-  pub floor_names : (r : Result ℕ Refusal) → told r ≡ floor_verdict d p z m → FirstNamed Floor d p z (told r)
-  floor_names r e = names_after Floor d p z both_long (told r) e

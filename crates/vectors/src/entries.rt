@@ -7,6 +7,7 @@ ghost use Rattle.vectors.specs.Verdicts.{marked};
 pub fn first_above(entries: &[u32], limit: u32) -> Option<usize>
     ensures { result ≡ first_bad (λ x. nat_le x limit) 0 entries.now }
 {
+    // kept: a rule of the project, this search is a loop over the entries with their index
     for (i, entry) in entries.iter().enumerate() {
         if *entry > limit {
             return Some(i);
@@ -20,7 +21,8 @@ pub(crate) fn mark(entries: &[u32], marks: &mut [u8])
     requires { length entries.now ≡ length marks.old }
     ensures { marks.new ≡ marked entries.now }
 {
-    for (i, entry) in entries.iter().enumerate() {
-        marks[i] = if *entry > 0 { 1 } else { 0 };
+    // kept: of marks that a zip lends one by one a proof knows nothing once the loop is over
+    for (i, mark) in marks.iter_mut().enumerate() {
+        *mark = u8::from(entries[i] > 0);
     }
 }

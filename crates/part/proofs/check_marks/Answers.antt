@@ -1,23 +1,18 @@
-use Rattle.std.proofs.Common.{leb, length, Ok, ap, arith}
-use Rattle.std.proofs.lemmas.Bool.{le-leb, lt-leb}
-use Rattle.refusal.specs.Tellings.{at_part}
-use Rattle.refusal.specs.Tests.{unless}
-use Rattle.refusal.proofs.Tests.{search_on, search_found, search_ended}
+use Rattle.std.proofs.Common.{◌≡◌, ℕ, ltb, leb, List, length, position, Option, ◌≤◌, ◌∙◌, inl, inr, sym}
+use Rattle.std.proofs.Math.Bool.{not}
+use Rattle.std.proofs.lemmas.Bool.{cases_lt, lt-ltb, lt-leb, le-ltb, le-leb}
+use Rattle.part.specs.Marks.{bad_mark}
+use Rattle.refusal.proofs.Tests.{position_bad}
 use Rattle.part.proofs.check_marks.Goals as goal
 
-pub returns-then-mark-gt1 : goal.returns-then-mark-gt1
-returns-then-mark-gt1 c =
-    let e =
-    search_found (λ b. leb b 1) c.args.marks.now c.loop-i.i c.loop-i.invariant 0 c.loop-i-test.true
-    (lt-leb _ _ c.if-mark-gt1.true) in
-    rw (le-leb (length c.args.marks.now) 4096 (omega arith)) (ap (λ o. unless (at_part 46) o (Ok tt)) e)
+opposite : (b : ℕ) → ltb 1 b ≡ not (leb b 1)
+opposite b = elim (cases_lt 1 b) [ inl h ↦ rw (lt-ltb 1 b h, lt-leb b 1 h) | inr h ↦ rw (le-ltb 1 b h, le-leb b 1 h) ]
 
-pub loop-i-preserved : goal.loop-i-preserved
-loop-i-preserved c =
-    search_on (λ b. leb b 1) c.args.marks.now c.loop-i.i c.loop-i.invariant 0 c.loop-i-test.true
-    (le-leb _ _ c.if-mark-gt1.false)
+found : (marks : List ℕ) (o : Option ℕ) → length marks ≤ 4096 → o ≡ position (λ b. ltb 1 b) marks → bad_mark marks ≡ o
+found marks o h e = rw (le-leb (length marks) 4096 h) (sym (e ∙ position_bad (λ b. ltb 1 b) (λ b. leb b 1) opposite marks))
 
-pub returns : goal.returns
-returns c =
-    let e = search_ended (λ b. leb b 1) c.args.marks.now c.loop-i.i c.loop-i.invariant c.loop-i-test.false in
-    rw (le-leb (length c.args.marks.now) 4096 (omega arith)) (ap (λ o. unless (at_part 46) o (Ok tt)) e)
+pub returns-in-Some : goal.returns-in-Some
+returns-in-Some c = rw (found c.args.marks.now _ c.if-marks-gt4096.false c.in-Some.ensures)
+
+pub returns-in-None : goal.returns-in-None
+returns-in-None c = rw (found c.args.marks.now _ c.if-marks-gt4096.false c.in-None.ensures)

@@ -1,53 +1,23 @@
--- The line that ends the depot is found, is not there, or is looked for further on.
-use Rattle.std.proofs.Common.{ℕ, ◌+◌, ◌-◌, List, length, sym, ap, ◌∙◌, subst, arith, length-drop}
-use Rattle.depot_text.specs.Splitting.{ends_depot}
-use Rattle.depot_text.proofs.Parting.{Parting, parting_none, parting_more, part_found, part_none}
+use Rattle.std.proofs.Common.{◌-◌, length, take, arith}
+use Rattle.std.proofs.lemmas.Bool.Decides.{nat_tests}
+use Rattle.depot_text.proofs.Parting.{Parted, part_found, part_none}
 use Rattle.depot_text.proofs.splitting.split_input.Goals as goal
+use Rattle.depot_text.proofs.splitting.split_input.Goals.{After-rest}
 
-pub loop-rest-init : goal.loop-rest-init
-loop-rest-init c = (parting_none c.args.input.now, omega arith)
+-- the line that was cut off ends the depot
+ends : (c : After-rest) → Parted c.args.input.now (take (length c.args.input.now - length c.in-Some.after.rest.now) c.args.input.now) c.in-Some.after.rest.now c.in-Some.after.at
+ends c =
+    let cut = c.in-Some.ensures in
+    part_found _ _ _ c.loop-line.invariant.0 _ _ _ cut.less cut.first cut.after cut.next (cc)
 
-pub overflow_add-lines : goal.overflow_add-lines
-overflow_add-lines c = omega (arith, c.loop-rest.invariant.1)
+pub returns-then-eq-clause-depot : goal.returns-then-eq-clause-depot
+returns-then-eq-clause-depot c = let e = (ends c).depot in let r = c.rest.ensures in cc
 
-pub split_at-requires : goal.split_at-requires
-split_at-requires c = omega (arith, c.loop-rest.invariant.1, c.cut_line.ensures.less c.loop-rest-test.true)
+pub returns-then-eq-clause-lines : goal.returns-then-eq-clause-lines
+returns-then-eq-clause-lines c = (ends c).count
 
-pub returns-then-same_bytes : goal.returns-then-same_bytes
-returns-then-same_bytes c =
-    let cut = c.cut_line.ensures in
-    let p =
-    part_found c.args.input.now c.loop-rest.rest.now _ _ c.loop-rest.lines c.loop-rest.invariant.0
-    c.loop-rest-test.true cut.first cut.after (sym c.if-same_bytes.ensures) in
-    let s = c.split_at.ensures in
-    let less = cut.less c.loop-rest-test.true in
-    record {
-      depot = s.depot ∙ p.depot;
-      lines = s.lines ∙ p.count;
-      rest = s.rest ∙ p.rest;
-      near = omega (arith, c.loop-rest.invariant.1, s.lines, ap length s.rest, length-drop (length c.args.input.now - length c.cut_line.result.1.now) c.args.input.now);
-    }
+pub returns-then-eq-clause-rest : goal.returns-then-eq-clause-rest
+returns-then-eq-clause-rest c = (ends c).rest
 
-pub loop-rest-preserved : goal.loop-rest-preserved
-loop-rest-preserved c =
-    let cut = c.cut_line.ensures in
-    let ends = ap ends_depot (sym cut.first) ∙ sym c.if-same_bytes.ensures in
-    let more =
-    parting_more c.args.input.now c.loop-rest.rest.now c.loop-rest.lines c.loop-rest.invariant.0
-    c.loop-rest-test.true ends in (
-      subst (λ (t : List ℕ). Parting c.args.input.now t (c.loop-rest.lines + 1)) (sym cut.after) more,
-      omega (arith, c.loop-rest.invariant.1, cut.less c.loop-rest-test.true),
-    )
-
-pub returns : goal.returns
-returns c =
-    let p =
-    part_none c.args.input.now c.loop-rest.rest.now c.loop-rest.lines c.loop-rest.invariant.0
-    (omega (arith, c.loop-rest-test.false)) in
-    let s = c.split_at-2.ensures in
-    record {
-      depot = s.depot ∙ p.depot;
-      lines = s.lines ∙ p.count;
-      rest = s.rest ∙ p.rest;
-      near = omega (arith, c.loop-rest.invariant.1, s.lines, ap length s.rest, length-drop (length c.args.input.now - 0) c.args.input.now);
-    }
+pub returns-clause-depot : goal.returns-clause-depot
+returns-clause-depot c = (part_none _ _ _ c.loop-line.invariant.0 (grind (arith, nat_tests))).depot

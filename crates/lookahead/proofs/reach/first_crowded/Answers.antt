@@ -1,22 +1,19 @@
-use Rattle.std.proofs.Common.{[], arith}
+use Rattle.std.proofs.Common.{ℕ, ◌<◌, ◌≤◌, [], length, get_or, rules}
+use borrow.Author.Tests.{tests}
+use Rattle.std.proofs.lemmas.Iterator.{first_from_Range}
 use Rattle.std.proofs.lemmas.Bool.{le-leb, lt-leb}
-use Rattle.refusal.proofs.Tests.{search_on, search_found, search_ended}
+use Rattle.process.specs.Process.{joined}
 use Rattle.encoding.specs.Reading.{process_read}
 use Rattle.table.specs.View.{lists_of}
 use Rattle.lookahead.specs.Answers.{narrow}
+use Rattle.lookahead.proofs.Firsts.{first_found}
 use Rattle.lookahead.proofs.reach.first_crowded.Goals as goal
-
-pub returns-then-move_count-gt-MOVE_LIMIT : goal.returns-then-move_count-gt-MOVE_LIMIT
-returns-then-move_count-gt-MOVE_LIMIT c =
-    let p = process_read (lists_of c.args.table.now) in
-    search_found narrow p c.loop-state.state c.loop-state.invariant [] (omega arith) (lt-leb _ _ (omega arith))
-
-pub loop-state-preserved : goal.loop-state-preserved
-loop-state-preserved c =
-    let p = process_read (lists_of c.args.table.now) in
-    search_on narrow p c.loop-state.state c.loop-state.invariant [] (omega arith) (le-leb _ _ (omega arith))
 
 pub returns : goal.returns
 returns c =
     let p = process_read (lists_of c.args.table.now) in
-    search_ended narrow p c.loop-state.state c.loop-state.invariant (omega arith)
+    let moves : ℕ → ℕ = λ s. length (joined (get_or p s [])) in
+    first_found narrow p [] (λ s. 16 < moves s) (λ s. moves s ≤ 16) (λ s h. lt-leb _ _ h) (λ s h. le-leb _ _ h)
+    c.states.result c.states.ensures c.find.result
+    (first_from_Range _ _ _ c.find.result (λ s. 16 < moves s) (λ s. moves s ≤ 16) c.find.ensures.ran
+    (λ x q k. search (rules, tests)) (λ x q k. search (rules, tests)))

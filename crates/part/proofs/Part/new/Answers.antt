@@ -1,6 +1,5 @@
-use Rattle.std.proofs.Common.{refl}
 use Rattle.part.proofs.Filled.{empty_set}
 use Rattle.part.proofs.Part.new.Goals as goal
 
-pub returns : goal.returns
-returns g c = record { below = refl; set = empty_set 4096 }
+pub returns-clause-set : goal.returns-clause-set
+returns-clause-set g c = empty_set 4096

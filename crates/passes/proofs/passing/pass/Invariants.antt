@@ -1,15 +1,13 @@
-use Rattle.std.proofs.Common.{◌≡◌, length}
+use Rattle.std.proofs.Common.{length}
+use Rattle.encoding.specs.Lists.{lists as lists_of}
 use Rattle.passes.specs.View.{view}
 use Rattle.passes.proofs.Turns.{Going}
 use Rattle.passes.proofs.passing.pass.Given as goal
 
-abbrev pub invariant-loop-state : goal.invariant-loop-state
-invariant-loop-state g l =
-    Going g.A.Automaton.next g.A.Automaton.ended g.A.Automaton.puts l.first l.text l.initial.state l.writes
-    (view l.initial.lists) l.state l.at l.rest (view l.lists)
-    × (l.lists.options.ghost_name ≡ l.initial.lists.options.ghost_name)
-    × (l.lists.starts.ghost_name ≡ l.initial.lists.starts.ghost_name)
-    × (l.lists.moves.ghost_name ≡ l.initial.lists.moves.ghost_name)
+abbrev pub invariant-loop-passed : goal.invariant-loop-passed
+invariant-loop-passed g l =
+    Going g.A.Automaton.next g.A.Automaton.ended g.A.Automaton.puts l.fn.text.at l.fn.text.rest.now l.fn.start
+    (view l.fn.lists) l.passed.state l.passed.text.at l.passed.text.rest.now (lists_of l.options l.starts l.moves)
 
-abbrev pub decreases-loop-state : goal.decreases-loop-state
-decreases-loop-state g l = length l.rest
+abbrev pub decreases-loop-passed : goal.decreases-loop-passed
+decreases-loop-passed g l = length l.passed.text.rest.now

@@ -1,44 +1,20 @@
-use Rattle.std.proofs.Common.{◌+◌, length, ap, ◌∙◌, arith}
-use Rattle.std.proofs.lemmas.List.{take_all}
+use Rattle.std.proofs.Common.{[], length, ◌∙◌, arith, rules}
 use Rattle.process.specs.Process.{joined}
-use Rattle.process.proofs.Joined.{length-joined_more, length-joined_twice_more, length-joined-take, length-joined_twice_take}
+use Rattle.process.proofs.Joined.{sum_lengths_twice}
+use Rattle.process.proofs.Chains.{chain_fits, chain_sum}
 use Rattle.process.proofs.size.size_of.Goals as goal
 
-pub overflow_add-options : goal.overflow_add-options
-overflow_add-options g c =
+pub sum-moves-requires-clause-fits : goal.sum-moves-requires-clause-fits
+sum-moves-requires-clause-fits g c =
     let p = g.M.Model.meaning c.args.model.now in
-    let f = g.M.Model.formed c.args.model.now c.requires in
-    omega (
-      arith,
-      length-joined_more p c.loop-state.state (omega arith),
-      length-joined-take p (c.loop-state.state + 1),
-      f.option_limit,
-    )
+    let f = g.met.M.Model.formed c.args.model.now c.requires in
+    chain_fits (λ os. length (joined os)) p [] c.states-states.result c.states-states.ensures
+    (omega (arith, sum_lengths_twice p, f.move_limit)) c.map.ensures.source c.map.ensures.closure
+    (λ x r q k. search rules)
 
-pub overflow_add-moves : goal.overflow_add-moves
-overflow_add-moves g c =
+pub returns-clause-moves : goal.returns-clause-moves
+returns-clause-moves g c =
     let p = g.M.Model.meaning c.args.model.now in
-    let f = g.M.Model.formed c.args.model.now c.requires in
-    omega (
-      arith,
-      length-joined_twice_more p c.loop-state.state (omega arith),
-      length-joined_twice_take p (c.loop-state.state + 1),
-      f.move_limit,
-    )
-
-pub loop-state-preserved : goal.loop-state-preserved
-loop-state-preserved g c =
-    let p = g.M.Model.meaning c.args.model.now in (
-      omega (arith, length-joined_more p c.loop-state.state (omega arith)),
-      omega (arith, length-joined_twice_more p c.loop-state.state (omega arith)),
-    )
-
-pub returns : goal.returns
-returns g c =
-    let p = g.M.Model.meaning c.args.model.now in
-    let all = take_all c.loop-state.state p (omega arith) in
-    record {
-      states = c.states-states.ensures;
-      options = c.loop-state.invariant.0 ∙ ap (λ l. length (joined l)) all;
-      moves = c.loop-state.invariant.1 ∙ ap (λ l. length (joined (joined l))) all;
-    }
+    chain_sum (λ os. length (joined os)) p [] c.states-states.result c.states-states.ensures c.sum-moves.result
+    c.sum-moves.ensures.ran c.map.ensures.source c.map.ensures.closure (λ x r q k. search rules)
+    ∙ sum_lengths_twice p

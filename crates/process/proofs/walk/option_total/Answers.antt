@@ -5,7 +5,7 @@ use Rattle.process.proofs.walk.option_total.Goals as goal
 pub returns : goal.returns
 returns g c =
     let m = c.args.model.now in
-    let f = g.M.Model.formed m c.requires in
+    let f = g.met.M.Model.formed m c.requires in
     record {
       value =
           omega (

@@ -1,16 +1,9 @@
-use Rattle.std.proofs.Common.{unwrap_or, ap}
-use Rattle.process.specs.Walks.{no_options}
+use Rattle.std.proofs.Common.{rules}
 use Rattle.process.proofs.Walks.{spanned}
 use Rattle.process.proofs.walk.span_of.Goals as goal
 
-pub returns-in-Some : goal.returns-in-Some
-returns-in-Some g c =
+pub returns-clause-spanned : goal.returns-clause-spanned
+returns-clause-spanned g c =
     let m = c.args.model.now in
-    let e = ap (λ o. unwrap_or o no_options) c.in-Some.ensures in
-    record { answer = e; spanned = spanned g.M.Model.scale (g.M.Model.meaning m) (g.M.Model.formed m c.requires) c.args.state _ e }
-
-pub returns-in-None : goal.returns-in-None
-returns-in-None g c =
-    let m = c.args.model.now in
-    let e = ap (λ o. unwrap_or o no_options) c.in-None.ensures in
-    record { answer = e; spanned = spanned g.M.Model.scale (g.M.Model.meaning m) (g.M.Model.formed m c.requires) c.args.state _ e }
+    spanned g.M.Model.scale (g.M.Model.meaning m) (g.met.M.Model.formed m c.requires) c.args.state c.unwrap_or_default.result
+    (search rules)

@@ -1,19 +1,15 @@
-use Rattle.std.proofs.Common.{sym, ◌∙◌, arith}
-use Rattle.std.proofs.lemmas.List.{at_drop_all}
+use Rattle.std.proofs.Common.{◌≤◌, ◌∙◌, length, arith}
+use Rattle.std.proofs.lemmas.Bool.{false≢true}
 use Rattle.std.proofs.lemmas.Bool.Decides.{nat_tests}
-use Rattle.encoding.specs.Answers.{rises}
-use Rattle.table.proofs.Turns.{rises_turn}
+use Rattle.table.proofs.Turns.{starts_value, starts_no}
 use Rattle.table.proofs.checks.rising.Goals as goal
 
-pub returns-then-next-last : goal.returns-then-next-last
-returns-then-next-last c =
-    let e = rises_turn c.loop-i.last c.args.end c.args.list.now c.loop-i.i (omega arith) in grind (arith, nat_tests)
+pub returns-then-steps_up : goal.returns-then-steps_up
+returns-then-steps_up c =
+    let n : 1 ≤ length c.args.list.now = grind (arith, nat_tests, c.if-is_empty.ensures) in
+    starts_value c.args.list.now c.args.end n c.if-list-ne0.false (c.steps_up.ensures.0 c.if-steps_up.true)
 
-pub loop-i-preserved : goal.loop-i-preserved
-loop-i-preserved c =
-    let e = rises_turn c.loop-i.last c.args.end c.args.list.now c.loop-i.i (omega arith) in grind (arith, nat_tests)
-
-pub returns : goal.returns
-returns c =
-    sym (at_drop_all (λ l. rises c.loop-i.last l c.args.end) c.args.list.now c.loop-i.i c.loop-i-test.false)
-    ∙ c.loop-i.invariant
+pub returns-else-steps_up : goal.returns-else-steps_up
+returns-else-steps_up c =
+    c.if-steps_up.false
+    ∙ starts_no c.args.list.now c.args.end (λ h. let t = c.steps_up.ensures.1 h in false≢true (rw c.if-steps_up.false at t))

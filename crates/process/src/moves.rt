@@ -1,0 +1,29 @@
+// The moves of an option, one after another.
+ghost use Rattle.std.specs.Iterator.{YieldsFirst, item_count};
+ghost use Rattle.process.specs.Steps.{moves_left};
+
+use crate::{Model, Move};
+
+#[derive(Drop)]
+pub struct Steps<'a, M> {
+    pub(crate) model: &'a M,
+    pub(crate) state: usize,
+    pub(crate) option: usize,
+    pub(crate) index: usize,
+}
+
+impl<'a, M: Model> Iterator for Steps<'a, M> {
+    type Item = Move;
+
+    ghost can_next = { λ s. M.Model.valid s.model.now };
+
+    ghost next_gives = { YieldsFirst (moves_left M.Model.meaning) };
+
+    ghost remaining = { item_count (moves_left M.Model.meaning) };
+
+    fn next(&mut self) -> Option<Move> {
+        let step = self.model.move_at(self.state, self.option, self.index)?;
+        self.index += 1;
+        Some(step)
+    }
+}
