@@ -76,7 +76,12 @@ module _ (d first : ℕ) (t : List ℕ) (l : Lists) where
         refused = λ e. cond-false (is_ok (read d first t l)) _ l (sym (is_sized (read d first t l)) ∙ e);
       }
 
--- of an answer and lists that are those, the first line having the number 1
-pub loaded_by : (d : ℕ) (t : List ℕ) (l : Lists) (r : Result Size Telling) (new : Lists) → 1 ≤ d → d ≤ 65536
+  -- of an answer and lists that are those
+  pub loaded_by : (r : Result Size Telling) (new : Lists) → 1 ≤ d → d ≤ 65536
+      → r ≡ answer d first t l → new ≡ left d first t l → LoadedAsSpelled d t l r new
+  loaded_by r new low high e f = rw (e, f) (loading_law low high)
+
+-- the same, where the first line has the number 1
+pub loaded_from_one : (d : ℕ) (t : List ℕ) (l : Lists) (r : Result Size Telling) (new : Lists) → 1 ≤ d → d ≤ 65536
     → r ≡ answer d 1 t l → new ≡ left d 1 t l → LoadedAsSpelled d t l r new
-loaded_by d t l r new low high e f = rw (e, f) (loading_law d 1 t l low high)
+loaded_from_one d t l = loaded_by d 1 t l

@@ -59,7 +59,7 @@ fn check_end(depot: Depot, text: Text<'_>) -> Result<Depot, Refusal>
 
 // Reads a depot from its text into three lists: option starts, move starts, and the place and weight of each move.
 // Numbers past those that it needs stay; after a refusal all three are as they were.
-#[tactic(auto, using(crate::proofs::Law::loaded_by))]
+#[tactic(auto, using(crate::proofs::Law::loaded_from_one))]
 pub fn load(text: &[u8], lists: Lent<'_>) -> Result<Size, Refusal>
     ensures answer { told result ≡ answer 1000 1 text.now (view lists.entry) }
     ensures lists { returned lists.exit ≡ left 1000 1 text.now (view lists.entry) }

@@ -1,10 +1,12 @@
--- Sets of flags, arrays made by calls, and searches for a mark.
-use Rattle.std.proofs.Common.{◌≡◌, ℕ, zero, suc, ◌+◌, ◌<◌, false, List, get_or, replicate, subst, refl, ◌∙◌, zero-add, add-zero, arith}
+-- Flags made from marks stand for the marked states.
+use Rattle.std.proofs.Common.{◌≡◌, ℕ, zero, suc, ◌+◌, ◌-◌, ◌<◌, ◌≤◌, Bool, false, eqb, List, [], ◌∷◌, ◌++◌, map, length, get_or, take, set, replicate, sym, refl, ap, ◌∙◌, append_assoc, arith}
 use mathlib.Core.Path.{fun_ext}
-use denote.Param.Members.{Mut}
-use Rattle.std.specs.Fn.{Called}
-use Rattle.std.specs.Array.{IsFromFnResultFrom, IsFromFnResult}
-use Rattle.part.specs.Marks.{set_of, none}
+use Rattle.std.proofs.lemmas.List.{length-map, length-take-le, map_more, set_at}
+use Rattle.part.specs.Marks.{set_of, none, marked}
+
+-- the flags of some marks, with room for more behind them
+abbrev pub flags_of : List ℕ → ℕ → List Bool
+flags_of marks room = map (λ b. eqb b 1) marks ++ replicate room false
 
 none_set : (n s : ℕ) → set_of (replicate n false) s ≡ false
 none_set zero s = refl
@@ -14,15 +16,23 @@ none_set (suc n) (suc s) = none_set n s
 pub empty_set : (n : ℕ) → set_of (replicate n false) ≡ none
 empty_set n = fun_ext (none_set n)
 
--- what an array made by calls holds, where each call gives the value of its number and changes nothing
-module _ {F B : Type 0} (g : Mut F (ℕ × Unit {0}) B) (value : ℕ → B) (f : F) (same : (i : ℕ) (r : B) (q : F) → Called g f (i, tt) r q → (r ≡ value i) × (q ≡ f)) where
-  made_from : (ys : List B) (d : B) (n i k : ℕ) → IsFromFnResultFrom g f ys i n → k < n → get_or ys (i + k) d ≡ value (i + k)
-  made_from ys d zero i k h l = absurd (omega arith)
-  made_from ys d (suc n) i zero h l = rw (add-zero i) (h.2.1 d ∙ (same i h.1 h.0 h.3).0)
-  made_from ys d (suc n) i (suc k) h l =
-      let e : i + suc k ≡ i + 1 + k = omega arith in
-      let rest = subst (λ q. IsFromFnResultFrom g q ys (i + 1) n) (same i h.1 h.0 h.3).1 h.4 in
-      rw e (made_from ys d n (i + 1) k rest (omega arith))
+pub marked_set : (marks : List ℕ) (room : ℕ) → set_of (flags_of marks room) ≡ marked marks
+marked_set marks room = fun_ext (each marks)
+  where
+    each : (marks : List ℕ) (s : ℕ) → set_of (flags_of marks room) s ≡ marked marks s
+    each [] s = none_set room s
+    each (b ∷ marks) zero = refl
+    each (b ∷ marks) (suc s) = each marks s
 
-  pub made : (ys : List B) (d : B) (n k : ℕ) → IsFromFnResult g f ys n → k < n → get_or ys k d ≡ value k
-  made ys d n k h l = subst (λ (i : ℕ). get_or ys i d ≡ value i) (zero-add k) (made_from ys d n 0 k h.each l)
+-- one flag more
+pub flags_more : (marks : List ℕ) (flags : List Bool) (i n : ℕ) → i < length marks → length marks ≤ n
+    → flags ≡ flags_of (take i marks) (n - i)
+    → set flags i (eqb (get_or marks i 0) 1) ≡ flags_of (take (i + 1) marks) (n - (i + 1))
+flags_more marks flags i n h k e =
+    let is : ℕ → Bool = λ b. eqb b 1 in
+    let room : n - i ≡ suc (n - (i + 1)) = omega arith in
+    let front : length (map is (take i marks)) ≡ i = length-map (take i marks) is ∙ length-take-le i marks (omega arith) in
+    ap (λ l. set l i (is (get_or marks i 0))) (e ∙ ap (flags_of (take i marks)) room)
+    ∙ (set_at (map is (take i marks)) false (replicate (n - (i + 1)) false) (is (get_or marks i 0)) i front
+    ∙ sym (ap (λ l. l ++ replicate (n - (i + 1)) false) (map_more is marks i 0 h)
+    ∙ append_assoc (map is (take i marks)) (is (get_or marks i 0) ∷ []) (replicate (n - (i + 1)) false)))

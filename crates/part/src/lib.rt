@@ -9,7 +9,6 @@ ghost use Rattle.part.specs.Marks.{set_of, none, marked, answer, leaves};
 
 use process::{End, Model as ProcessModel, Move, Place, Span};
 use refusal::Refusal;
-use std::array;
 
 // A model that keeps some of the states of the one below: a move leads to the exit if its own state or the state that
 // it leads to is not kept. The set is the part's own, so nothing stays borrowed after a fill.
@@ -100,17 +99,16 @@ fn bad_mark(marks: &[u8]) -> Option<usize>
 }
 
 // the marks as flags, false past the list
+// kept: `array::from_fn` makes each of the 4,096 flags by a call, which takes many times as long for few marks
 fn flags(marks: &[u8]) -> [bool; 4096]
     requires { length marks.now ≤ 4096 }
     ensures { set_of result ≡ marked marks.now }
 {
-    array::from_fn(|state| is_marked(marks, state))
-}
-
-fn is_marked(marks: &[u8], state: usize) -> bool
-    ensures { result ≡ marked marks.now state }
-{
-    marks.get(state).is_some_and(|mark| *mark == 1)
+    let mut set = [false; 4096];
+    for (i, mark) in marks.iter().enumerate() {
+        set[i] = *mark == 1;
+    }
+    set
 }
 
 #[tactic(auto, using(crate::proofs::Queries::part_queries))]

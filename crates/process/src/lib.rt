@@ -7,12 +7,13 @@ ghost use Rattle.process.specs.Queries.{options_at, moves_at, move_at};
 mod moves;
 mod place;
 mod size;
+mod stepping;
 mod walk;
 mod worth;
 
-pub use moves::Steps;
 pub use place::{End, Move, Place, Span};
 pub use size::{Size, move_count, option_count, size_of};
+pub use stepping::Steps;
 pub use walk::{count_of, option_total, span_of, step_of, steps};
 
 // A decision process behind queries. State 0 is the start. An option is named by its state and its place in that

@@ -2,15 +2,7 @@
 ghost use Rattle.std.specs.Iterator.{YieldsFirst, item_count};
 ghost use Rattle.process.specs.Steps.{moves_left};
 
-use crate::{Model, Move};
-
-#[derive(Drop)]
-pub struct Steps<'a, M> {
-    pub(crate) model: &'a M,
-    pub(crate) state: usize,
-    pub(crate) option: usize,
-    pub(crate) index: usize,
-}
+use crate::{Model, Move, Steps, step_of};
 
 impl<'a, M: Model> Iterator for Steps<'a, M> {
     type Item = Move;
@@ -22,7 +14,10 @@ impl<'a, M: Model> Iterator for Steps<'a, M> {
     ghost remaining = { item_count (moves_left M.Model.meaning) };
 
     fn next(&mut self) -> Option<Move> {
-        let step = self.model.move_at(self.state, self.option, self.index)?;
+        if self.index >= self.count {
+            return None;
+        }
+        let step = step_of(self.model, self.state, self.option, self.index);
         self.index += 1;
         Some(step)
     }

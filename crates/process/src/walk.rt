@@ -50,6 +50,7 @@ pub fn steps<M: Model>(model: &M, state: usize, option: usize) -> Steps<'_, M>
         state,
         option,
         index: 0,
+        count: count_of(model, state, option),
     }
 }
 

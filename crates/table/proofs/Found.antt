@@ -16,7 +16,7 @@ use Rattle.encoding.proofs.Moves.{length-moves_read, moves_read-at}
 use Rattle.encoding.proofs.Sound.{Sound, sound}
 use Rattle.table.specs.declared.Table.{Table}
 use Rattle.table.specs.View.{lists_of}
-use Rattle.table.specs.Runs.{option_count, span_in, span_of, span_at, run_of, run_at, move_read, run_move}
+use Rattle.table.specs.Runs.{option_count, span_of, span_at, run_of, run_at, move_read, run_move}
 
 pub good : (t : Table) → Sound 1000 (lists_of t)
 good t = sound 1000 (lists_of t) t.ok
@@ -64,14 +64,6 @@ module _ (d : ℕ) (l : Lists) (k : Sound d l) where
         | inl h ↦ let w = span_within s h in rw (lt-ltb s (length l.option_starts - 1) h) (omega (arith, w.0, w.1))
         | inr h ↦ rw (le-ltb s (length l.option_starts - 1) h) tt
       ]
-
-  -- an option of a span that was found stands where the run of the option does
-  pub run_there : (s o : ℕ) (w : Span) → Some w ≡ span_at l s → o < w.count → span_in l.move_starts (w.first + o) ≡ run_at l s o
-  run_there s o w e h =
-      let f = (span_found l s w e).1 in
-      let n : o < option_count l s = omega (arith, ap (λ (w : Span). w.count) f) in
-      let t : ltb (get_or l.option_starts s 0 + o) (length l.move_starts - 1) ≡ true = lt-ltb _ _ (omega (arith, option-within s o n)) in
-      rw (f, lt-ltb o (option_count l s) n, t)
 
   pub run-within : (s o : ℕ) → IfSome (run_at l s o) (λ w. w.first + w.count ≤ length l.moves / 2)
   run-within s o =

@@ -50,10 +50,14 @@ fn bad_starts(lists: Lists<'_>) -> Option<usize>
     requires { 1 ≤ length lists.starts.now }
     ensures { result ≡ first_false (starts_fit (lent lists.entry)) }
 {
-    first_false([
-        rising(lists.options, lists.starts.len() - 1),
-        rising(lists.starts, lists.moves.len() / 2),
-    ])
+    // kept: one after the other, since an array of both tests would walk the second list where the first has failed
+    if !rising(lists.options, lists.starts.len() - 1) {
+        return Some(0);
+    }
+    if !rising(lists.starts, lists.moves.len() / 2) {
+        return Some(1);
+    }
+    None
 }
 
 // the first of several tests that fails

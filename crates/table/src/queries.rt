@@ -1,7 +1,7 @@
-ghost use Rattle.std.specs.Prelude.{◌≡◌, ℕ, ◌+◌, ◌/◌, ◌<◌, ◌≤◌, length, slice_index, IfSome};
+ghost use Rattle.std.specs.Prelude.{◌≡◌, ◌+◌, ◌/◌, ◌<◌, ◌≤◌, length, slice_index, IfSome};
 ghost use Rattle.encoding.specs.Reading.{process_read};
 ghost use Rattle.table.specs.View.{lists_of};
-ghost use Rattle.table.specs.Runs.{span_in, span_at, run_at};
+ghost use Rattle.table.specs.Runs.{span_from, span_at, run_at};
 ghost use Rattle.table.specs.Laws.{formed_table};
 
 use crate::Table;
@@ -9,16 +9,16 @@ use crate::reading::read_move;
 use process::{Model as ProcessModel, Move, Span};
 
 // where part `index` of a list stands, from the starts of its parts
-fn span_in(starts: &[u32], index: usize) -> Option<Span>
-    requires { (k : ℕ) → k + 1 < length starts.now → slice_index starts.now k ≤ slice_index starts.now (k + 1) }
-    ensures { result ≡ span_in starts.now index }
+fn span_from(starts: &[u32], index: usize) -> Span
+    requires within { index + 1 < length starts.now }
+    requires rise { slice_index starts.now index ≤ slice_index starts.now (index + 1) }
+    ensures { result ≡ span_from starts.now index }
 {
-    let first = *starts.get(index)? as usize;
-    let end = *starts.get(index + 1)? as usize;
-    Some(Span {
+    let first = starts[index] as usize;
+    Span {
         first,
-        count: end - first,
-    })
+        count: starts[index + 1] as usize - first,
+    }
 }
 
 impl Table<'_> {
@@ -27,7 +27,10 @@ impl Table<'_> {
         ensures value { result ≡ span_at (lists_of self.now) state }
         ensures within { IfSome result (λ w. w.first + w.count < length self.now.lists.starts.now) }
     {
-        span_in(self.lists.options, state)
+        if state >= self.lists.options.len() - 1 {
+            return None;
+        }
+        Some(span_from(self.lists.options, state))
     }
 
     // where the moves of an option stand in the list of moves
@@ -39,7 +42,8 @@ impl Table<'_> {
         if option >= span.count {
             return None;
         }
-        span_in(self.lists.starts, span.first + option)
+        // the starts have been checked, so an option that is there has its run
+        Some(span_from(self.lists.starts, span.first + option))
     }
 }
 

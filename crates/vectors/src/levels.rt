@@ -45,7 +45,8 @@ impl<'a, M: Model> Levels<'a, M> {
         })
     }
 
-    // 42, 43, or the bound
+    // 42, 43, or the bound; inlined, so that the kind is a constant of each check and not asked at each move
+    #[inline(always)]
     pub(crate) fn judge(&self) -> Result<u32, Refusal>
         requires { M.Model.valid self.now.model.now }
         ensures answer { told result ≡ judgement self.now.kind M.Model.scale (M.Model.meaning self.now.model.now) self.now.entries.now }
@@ -62,6 +63,7 @@ impl<'a, M: Model> Levels<'a, M> {
     }
 
     // the number of the first option at which the inequality fails, states in rising order
+    #[inline(always)]
     fn first_unfair(&self) -> Option<usize>
         requires { M.Model.valid self.now.model.now }
         ensures { result ≡ first_failing (holds_at self.now.kind M.Model.scale (length (M.Model.meaning self.now.model.now)) self.now.entries.now) 0 0 (M.Model.meaning self.now.model.now) }

@@ -1,19 +1,17 @@
-use Rattle.std.proofs.Common.{rules, false, ◌∙◌, inl, inr, arith}
-use mathlib.Core.Path.{fun_ext}
-use Rattle.std.proofs.lemmas.Bool.{cases_lt}
-use Rattle.std.proofs.lemmas.List.{get_or_past}
-use Rattle.part.specs.Marks.{marked}
-use Rattle.part.proofs.Filled.{made}
+use Rattle.std.proofs.Common.{◌-◌, eqb, get_or, take, ap, ◌∙◌, arith}
+use Rattle.std.proofs.lemmas.List.{take_all, length-set}
+use Rattle.part.specs.Marks.{set_of, marked}
+use Rattle.part.proofs.Filled.{marked_set, flags_more}
 use Rattle.part.proofs.flags.Goals as goal
+
+pub loop-i-preserved : goal.loop-i-preserved
+loop-i-preserved c = (
+  flags_more c.args.marks.now c.loop-i.set c.loop-i.i 4096 (omega arith) c.requires c.loop-i.invariant.0,
+  length-set c.loop-i.set c.loop-i.i (eqb (get_or c.args.marks.now c.loop-i.i 0) 1) ∙ c.loop-i.invariant.1,
+)
 
 pub returns : goal.returns
 returns c =
-    let marks = c.args.marks.now in
-    let flags = c.from_fn.ensures.items in
-    fun_ext
-    (λ s.
-    elim (cases_lt s 4096) [
-      | inl h ↦ made _ (marked marks) _ (λ i r q w. search rules) _ false 4096 s flags h
-      | inr h ↦
-          get_or_past c.from_fn.result s false (omega (arith, flags.long)) ∙ rw (get_or_past marks s 0 (omega arith))
-    ])
+    ap set_of c.loop-i.invariant.0
+    ∙ (marked_set (take c.loop-i.i c.args.marks.now) (4096 - c.loop-i.i)
+    ∙ ap marked (take_all c.loop-i.i c.args.marks.now (omega arith)))

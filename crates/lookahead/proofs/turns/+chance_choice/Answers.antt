@@ -4,7 +4,7 @@ use Rattle.encoding.specs.Reading.{process_read}
 use Rattle.table.specs.View.{lists_of}
 use Rattle.table.specs.Laws.{formed_table}
 use Rattle.lookahead.specs.Sides.{outlook}
-use Rattle.lookahead.proofs.Limits.{sum_fits, power_fits}
+use Rattle.lookahead.proofs.Limits.{whole_fits, power_fits}
 use Rattle.lookahead.proofs.Picks.{picked_first, picked_more, picked_all}
 use Rattle.lookahead.proofs.turns.+chance_choice.Goals as goal
 use Rattle.lookahead.proofs.turns.+chance_choice.Goals.{chance-in-State, chance-in-End-Target, chance-in-End-Exit}
@@ -50,7 +50,7 @@ chance-overflow_add-sum t c =
       term,
       ap (mean f) c.in-Some.ensures.steps,
       c.loop-step.invariant,
-      sum_fits p (formed_table c.args.table.now) c.args.side c.args.depth c.args.state c.args.option c.requires,
+      whole_fits p (formed_table c.args.table.now) c.args.side c.args.depth c.args.state c.args.option c.requires,
     )
 
 pub chance-overflow_mul-sum : goal.chance-overflow_mul-sum
